@@ -1,0 +1,46 @@
+-- Document 01, "Controls": "Limit: row 6."
+use Prim.Native.Nat.{ℕ, _+_, _*_, _-_, min}
+use mathlib.Core.Bool.{Bool, true, false, _&&_}
+use lib.Dec.{leb, ltb, eqb}
+use Rattle.leaf.specs.Choosing.{pick}
+use Rattle.leaf.specs.Numbers.{agedOf, belowOf}
+use Rattle.sides.specs.declared.limit.Limit.{Limit}
+
+abbrev pub noLimit : Limit
+noLimit = record { on = false; age = 0; steps = 0 }
+
+-- one sample on
+abbrev pub limitOlder : Limit → Limit
+limitOlder l = record { on = l .on; age = agedOf (l .age); steps = l .steps }
+
+-- set by a reading of this age; "A repeat sets steps to 0 and keeps its age."
+unfoldable pub limitSet : ℕ → Limit → Limit
+limitSet age l = record { on = true; age = pick (l .on) (l .age) age; steps = 0 }
+
+-- ".. up to min(T, 160)"
+abbrev pub highest : ℕ → ℕ
+highest top = min top 16000
+
+-- the final value, steps included: "a 20 km/h step, up to min(T, 160)"; without a step the row's final stands, whatever T is
+unfoldable pub steppedFinal : ℕ → ℕ → ℕ → ℕ
+steppedFinal last steps top = pick (eqb steps 0) (last * 100) (min (last * 100 + steps * 2000) (highest top))
+
+-- the row while it is above its final, then the final value with its steps; row is what row 6 gives at the limit's age
+unfoldable pub limitSpeed : ℕ → ℕ → ℕ → Limit → ℕ
+limitSpeed row last top l = pick (ltb (last * 100) row) row (steppedFinal last (l .steps) top)
+
+-- "At its final value, increase (if stop has no use for it) adds a 20 km/h step, up to min(T, 160); at or over that a press adds none;"
+unfoldable pub mayStep : ℕ → ℕ → ℕ → Limit → Bool
+mayStep row last top l = l .on && leb row (last * 100) && ltb (steppedFinal last (l .steps) top) (highest top)
+
+-- steps are 0..8
+abbrev pub stepped : Limit → Limit
+stepped l = record { on = l .on; age = l .age; steps = min (l .steps + 1) 8 }
+
+-- "hide takes one off."
+abbrev pub hidden : Limit → Limit
+hidden l = record { on = l .on; age = l .age; steps = l .steps - 1 }
+
+-- "Button 6 removes it when speed is below its final value, steps included."
+unfoldable pub removable : ℕ → ℕ → ℕ → Limit → Bool
+removable m last top l = l .on && belowOf m (steppedFinal last (l .steps) top)

@@ -1,0 +1,4 @@
+pub mod Windows
+pub mod MainControl
+pub mod Stop
+pub mod WindowLaws

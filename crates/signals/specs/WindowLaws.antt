@@ -1,0 +1,1 @@
+-- What holds of every window, whatever it waits for and however long it is.
