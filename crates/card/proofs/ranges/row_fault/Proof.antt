@@ -1,0 +1,11 @@
+use borrow.Author.Needs.{needs}
+use Rattle.card.proofs.ranges.row_fault.Statement.{statement}
+use Rattle.card.proofs.ranges.row_fault.Tie as tie
+
+returns : tie.Need-returns
+returns c = simp (c .fault-at .ensures, c .before .before .check-byte2 .ensures, c .before .before .before .check-byte .ensures, c .before .before .before .before .place .ensures)
+
+pub row-fault-spec : {M : Type 1} → statement M
+row-fault-spec =
+    tie.close
+    (tie.spec (λ c κs. search needs) (λ c κs. search needs) (λ c κs. search needs) (λ c κs. search needs) returns)

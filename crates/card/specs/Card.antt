@@ -1,0 +1,49 @@
+-- Document 01, "The card": what stands where, the functions, and which bytes speak.
+use Prim.Native.Nat.{ℕ, _+_}
+use mathlib.Core.List.{List}
+use mathlib.Core.Bool.{Bool, _&&_, _||_, not}
+use lib.Dec.{ltb, eqb}
+use Rattle.leaf.specs.Choosing.{pick}
+use Rattle.leaf.specs.Numbers.{within, bitOf}
+use Rattle.leaf.specs.Bytes.{byte}
+use Rattle.card.specs.declared.Row.{Row}
+
+-- ---- the record
+
+-- "Bytes 0–1 length of the whole record, 2 version, 3 vmax": the settings begin at byte 3, and each setting's place below
+-- is so many bytes behind the first
+abbrev pub FIRST : ℕ
+FIRST = 3
+
+-- "The version 1 length, 39, and the version 2 length, 44, belong to the card's kind."
+abbrev pub lengthOf : ℕ → ℕ
+lengthOf version = pick (eqb version 1) 39 44
+
+-- the versions there are: "writer: not 1 or 2", "reader's highest version not 1 or 2"
+abbrev pub known : ℕ → Bool
+known version = within 1 2 version
+
+-- "eight rows of four: initial, final, delay, drop": the row that begins at a place
+unfoldable pub rowAt : List ℕ → ℕ → Row
+rowAt area at = record { initial = byte area at; last = byte area (at + 1); delay = byte area (at + 2); drop = byte area (at + 3) }
+
+-- ---- the functions
+
+-- "Functions, all missing before 2015 (001): bit 0 protected crossing, 1 stop zone, 2 reminder, 3 BTS reads beacons 4, 9, 10, 11."
+abbrev pub protects : ℕ → Bool
+protects functions = bitOf functions 1
+
+abbrev pub zones : ℕ → Bool
+zones functions = bitOf functions 2
+
+abbrev pub reminds : ℕ → Bool
+reminds functions = bitOf functions 4
+
+abbrev pub readsInBts : ℕ → Bool
+readsInBts functions = bitOf functions 8
+
+-- ---- speaking bytes
+
+-- "Speaking bytes: the record, less 40–43 when bit 2 is off."
+unfoldable pub speaks : ℕ → ℕ → ℕ → Bool
+speaks version functions at = ltb at (lengthOf version) && (reminds functions || not (within 40 43 at))

@@ -1,0 +1,5 @@
+pub mod Card
+pub mod Ranges
+pub mod Reading
+pub mod Writing
+pub mod Laws

@@ -1,0 +1,86 @@
+-- Document 01, "The card" and refusals 1 to 6: what an area of bytes reads as.
+use Prim.Native.Nat.{ℕ, _+_}
+use mathlib.Core.List.{List, [], _∷_}
+use mathlib.Core.Bool.{Bool, not}
+use lib.Dec.{leb, eqb}
+use lib.ListN.{length}
+use Rattle.leaf.specs.Choosing.{pick}
+use Rattle.leaf.specs.Bytes.{byte, word}
+use Rattle.leaf.specs.Checks.{Check, firstBad}
+use Rattle.leaf.specs.Answers.{Answer, given, refused, refusedAt, refusalOf}
+use Rattle.card.specs.Card.{FIRST, lengthOf, known, rowAt, reminds}
+use Rattle.card.specs.Ranges.{faultOf}
+use Rattle.card.specs.declared.Settings.{Settings}
+use Rattle.card.specs.declared.Reading.{Reading}
+use Rattle.card.specs.declared.Reading.the-variants.{Read, Refused}
+
+-- ---- the settings of an area
+
+-- "Version 2 adds 39 functions"; "A version 1 card has functions 0"
+unfoldable pub functionsFrom : ℕ → ℕ → List ℕ → ℕ
+functionsFrom first version area = pick (eqb version 1) 0 (byte area (first + 36))
+
+-- "With bit 2 off, bytes 40–43 are not looked at and X, Y read as 0"
+abbrev pub kept : Bool → ℕ → ℕ
+kept on x = pick on x 0
+
+-- the settings of an area whose first setting stands at `first`; "Big-endian": a word is high byte first
+unfoldable pub settingsFrom : ℕ → ℕ → List ℕ → Settings
+settingsFrom first version area =
+    record {
+      vmax = byte area (first + 0);
+      tick = word area (first + 1);
+      bts = byte area (first + 3);
+      clear = rowAt area (first + 4);
+      announcement = rowAt area (first + 8);
+      preannouncement = rowAt area (first + 12);
+      caution = rowAt area (first + 16);
+      «before_stop» = rowAt area (first + 20);
+      crossing = rowAt area (first + 24);
+      limit = rowAt area (first + 28);
+      start = rowAt area (first + 32);
+      functions = functionsFrom first version area;
+      x = kept (reminds (functionsFrom first version area)) (word area (first + 37));
+      y = kept (reminds (functionsFrom first version area)) (word area (first + 39));
+    }
+
+-- this card's settings: the version is byte 2, the first setting stands at byte 3
+abbrev pub settingsOf : List ℕ → Settings
+settingsOf area = settingsFrom FIRST (byte area 2) area
+
+-- ---- the refusals
+
+-- "Order: card reading 6, 1 (under 3), 2, 3, 4, 1 (record), 5"
+-- 6 reader's highest version not 1 or 2
+-- 1 card area under 3 bytes, or shorter than its record
+-- 2 card version 0
+-- 3 card version above the reader's highest
+-- 4 length field is not its version's length
+-- 5 setting out of range
+abbrev pub readChecks : List ℕ → ℕ → Bool → List Check
+readChecks area highest fine =
+    (6, known highest)
+    ∷ (1, leb 3 (length area))
+    ∷ (2, not (eqb (byte area 2) 0))
+    ∷ (3, leb (byte area 2) highest)
+    ∷ (4, eqb (word area 0) (lengthOf (byte area 2)))
+    ∷ (1, leb (lengthOf (byte area 2)) (length area))
+    ∷ (5, fine)
+    ∷ []
+
+-- "A refusal returns its number (and place for 5, 12)": the number is 0 where no refusal is due
+unfoldable pub answerBy : {A : Type 0} → ℕ → ℕ → A → Answer A
+answerBy number place a = pick (eqb number 0) (given a) (pick (eqb number 5) (refusedAt 5 place) (refused number))
+
+-- ---- the answer
+
+-- what a reader that knows the versions up to `highest` answers to an area
+unfoldable pub readCard : List ℕ → ℕ → Answer Settings
+readCard area highest =
+    answerBy (firstBad 0 (readChecks area highest (eqb (faultOf (byte area 2) (settingsOf area)) 0)))
+    (faultOf (byte area 2) (settingsOf area)) (settingsOf area)
+
+-- what each case of the reader's answer is on paper
+abbrev pub paperOf : Reading → Answer Settings
+paperOf (Read s) = given s
+paperOf (Refused why) = refusalOf why

@@ -1,0 +1,135 @@
+// Where the settings stand on the card: bytes to settings, and settings to bytes. What is read stands so many bytes
+// behind the card's first setting, whose place is handed in.
+use crate::Row;
+use crate::Settings;
+use crate::ranges::has_reminder;
+use leaf::byte_at;
+use leaf::choose8;
+use leaf::choose16;
+use leaf::high;
+use leaf::low;
+use leaf::word_at;
+ghost use mathlib.Core.Path.{_≡_};
+ghost use Prim.Native.Nat.{_+_};
+ghost use Rattle.leaf.specs.Bytes.{byte, word};
+ghost use Rattle.card.specs.Card.{rowAt, lengthOf};
+ghost use Rattle.card.specs.Reading.{functionsFrom, settingsFrom};
+ghost use Rattle.card.specs.Writing.{bytesOf};
+
+// The length of a record of this version.
+pub fn length_of(version: u8) -> u16
+    ensures { λ r. ⌜ r ≡ lengthOf version ⌝ }
+{
+    choose16(version == 1, Settings::LENGTH_1, Settings::LENGTH_2)
+}
+
+fn byte_from(area: &[u8], first: u8, offset: u8) -> u8
+    ensures { λ r. ⌜ r ≡ byte (now (area .entry)) (first + offset) ⌝ }
+{
+    byte_at(area, (first as usize) + (offset as usize))
+}
+
+fn word_from(area: &[u8], first: u8, offset: u8) -> u16
+    ensures { λ r. ⌜ r ≡ word (now (area .entry)) (first + offset) ⌝ }
+{
+    word_at(area, (first as u32) + (offset as u32))
+}
+
+fn row_from(area: &[u8], first: u8, offset: u8) -> Row
+    ensures { λ r. ⌜ r ≡ rowAt (now (area .entry)) (first + offset) ⌝ }
+{
+    let at = (first as usize) + (offset as usize);
+    Row {
+        initial: byte_at(area, at),
+        last: byte_at(area, at + 1),
+        delay: byte_at(area, at + 2),
+        drop: byte_at(area, at + 3),
+    }
+}
+
+// A version 1 card has functions 0, whatever stands behind it.
+fn functions_from(first: u8, version: u8, area: &[u8]) -> u8
+    ensures { λ r. ⌜ r ≡ functionsFrom first version (now (area .entry)) ⌝ }
+{
+    let there = byte_from(area, first, 36);
+    choose8(version == 1, 0, there)
+}
+
+// The settings of an area whose first setting stands at first.
+pub fn settings_from(first: u8, version: u8, area: &[u8]) -> Settings
+    ensures { λ r. ⌜ r ≡ settingsFrom first version (now (area .entry)) ⌝ }
+{
+    let functions = functions_from(first, version, area);
+    let on = has_reminder(functions);
+    let x = word_from(area, first, 37);
+    let y = word_from(area, first, 39);
+    Settings {
+        vmax: byte_from(area, first, 0),
+        tick: word_from(area, first, 1),
+        bts: byte_from(area, first, 3),
+        clear: row_from(area, first, 4),
+        announcement: row_from(area, first, 8),
+        preannouncement: row_from(area, first, 12),
+        caution: row_from(area, first, 16),
+        before_stop: row_from(area, first, 20),
+        crossing: row_from(area, first, 24),
+        limit: row_from(area, first, 28),
+        start: row_from(area, first, 32),
+        functions,
+        x: choose16(on, x, 0),
+        y: choose16(on, y, 0),
+    }
+}
+
+// The bytes of the longest record; those of a shorter one come first among them.
+pub fn encode(version: u8, s: Settings) -> [u8; 44]
+    ensures { λ r. ⌜ r ≡ bytesOf version s ⌝ }
+{
+    let n = length_of(version);
+    [
+        high(n),
+        low(n),
+        version,
+        s.vmax,
+        high(s.tick),
+        low(s.tick),
+        s.bts,
+        s.clear.initial,
+        s.clear.last,
+        s.clear.delay,
+        s.clear.drop,
+        s.announcement.initial,
+        s.announcement.last,
+        s.announcement.delay,
+        s.announcement.drop,
+        s.preannouncement.initial,
+        s.preannouncement.last,
+        s.preannouncement.delay,
+        s.preannouncement.drop,
+        s.caution.initial,
+        s.caution.last,
+        s.caution.delay,
+        s.caution.drop,
+        s.before_stop.initial,
+        s.before_stop.last,
+        s.before_stop.delay,
+        s.before_stop.drop,
+        s.crossing.initial,
+        s.crossing.last,
+        s.crossing.delay,
+        s.crossing.drop,
+        s.limit.initial,
+        s.limit.last,
+        s.limit.delay,
+        s.limit.drop,
+        s.start.initial,
+        s.start.last,
+        s.start.delay,
+        s.start.drop,
+        s.functions,
+        high(s.x),
+        low(s.x),
+        high(s.y),
+        low(s.y),
+    ]
+}

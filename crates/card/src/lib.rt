@@ -1,0 +1,209 @@
+// The settings card of document 01: reading it from an area of bytes, writing it into a lent buffer, and the
+// check of settings that reading, writing and opening share.
+//
+// Every function is total: there is no `requires`. Each public one ensures that its answer, put on paper by the
+// definition beside it, is the answer that specs/ defines; the writer ensures so of every byte of the lent buffer too.
+mod layout;
+mod ranges;
+
+use layout::encode;
+use layout::length_of;
+use layout::settings_from;
+use leaf::Refusal;
+use leaf::byte_at;
+use leaf::copy_front;
+use leaf::in_range;
+use leaf::or_fault;
+use leaf::word_at;
+use ranges::settings_fault;
+ghost use mathlib.Core.Path.{_≡_};
+ghost use lib.ListN.{length};
+ghost use Rattle.leaf.specs.Bytes.{over};
+ghost use Rattle.leaf.specs.Checks.{firstBad};
+ghost use Rattle.card.specs.Card.{known, lengthOf};
+ghost use Rattle.card.specs.Ranges.{faultOf, checkedOf, checkSettings};
+ghost use Rattle.card.specs.Reading.{paperOf, answerBy, readChecks, readCard};
+ghost use Rattle.card.specs.Writing.{writtenOf, written, writeChecks, writeCard, bytesOf, leaves};
+
+// One control's numbers: initial and last speed in km/h, delay in samples, drop in hundredths of km/h a sample.
+// (The paper's final: `final` is a word of the language.)
+pub struct Row {
+    pub initial: u8,
+    pub last: u8,
+    pub delay: u8,
+    pub drop: u8,
+}
+
+// What a card says. A version 1 card has functions, x and y 0.
+pub struct Settings {
+    pub vmax: u8,
+    pub tick: u16,
+    pub bts: u8,
+    pub clear: Row,
+    pub announcement: Row,
+    pub preannouncement: Row,
+    pub caution: Row,
+    pub before_stop: Row,
+    pub crossing: Row,
+    pub limit: Row,
+    pub start: Row,
+    pub functions: u8,
+    pub x: u16,
+    pub y: u16,
+}
+
+impl Settings {
+    // The length of a version 1 record.
+    pub const LENGTH_1: u16 = 39;
+
+    // The length of a version 2 record.
+    pub const LENGTH_2: u16 = 44;
+}
+
+// What the check of settings answers: in range, or the byte position of the first fault.
+pub enum Checked {
+    InRange,
+    FaultAt(u8),
+}
+
+pub enum Reading {
+    Read(Settings),
+    Refused(Refusal),
+}
+
+pub enum Written {
+    Done,
+    NotWritten(Refusal),
+}
+
+// ---- the settings' check
+
+// The place of the first setting out of range beside this version, 0 where there is none.
+fn fault(version: u8, s: Settings) -> u8
+    ensures { λ r. ⌜ r ≡ faultOf version s ⌝ }
+{
+    settings_fault(3, 80, 200, version, s)
+}
+
+// Are the settings in range beside this version. The opening, which has no version, asks as beside version 2.
+pub fn check(version: u8, s: Settings) -> Checked
+    ensures { λ r. ⌜ checkedOf r ≡ checkSettings version s ⌝ }
+{
+    let place = fault(version, s);
+    let fine = place == 0;
+    if fine {
+        return Checked::InRange;
+    }
+    Checked::FaultAt(place)
+}
+
+fn is_known(version: u8) -> bool
+    ensures { λ r. ⌜ r ≡ known version ⌝ }
+{
+    in_range(1, 2, version as u16)
+}
+
+// ---- reading
+
+// The number of the first refusal that is due, 0 where none is; fine says whether the settings are in range.
+fn read_refusal(area: &[u8], highest: u8, fine: bool) -> u8
+    ensures { λ n. ⌜ n ≡ firstBad 0 (readChecks (now (area .entry)) highest fine) ⌝ }
+{
+    let known = is_known(highest);
+    let version = byte_at(area, 2);
+    let length = length_of(version);
+    let stated = word_at(area, 0);
+    let n = or_fault(0, 6, known);
+    let n = or_fault(n, 1, 3 <= area.len());
+    let n = or_fault(n, 2, version != 0);
+    let n = or_fault(n, 3, version <= highest);
+    let n = or_fault(n, 4, stated == length);
+    let n = or_fault(n, 1, length as usize <= area.len());
+    or_fault(n, 5, fine)
+}
+
+fn read_answer(number: u8, place: u8, s: Settings) -> Reading
+    ensures { λ r. ⌜ paperOf r ≡ answerBy number place s ⌝ }
+{
+    let none = number == 0;
+    if none {
+        return Reading::Read(s);
+    }
+    let placed = number == 5;
+    if placed {
+        return Reading::Refused(Refusal::At(5, place));
+    }
+    Reading::Refused(Refusal::Number(number))
+}
+
+// The settings of the card in the area, for a reader that knows the versions up to highest. Nothing beyond the
+// record is looked at, nor are silent bytes.
+pub fn read(area: &[u8], highest: u8) -> Reading
+    ensures { λ r. ⌜ paperOf r ≡ readCard (now (area .entry)) highest ⌝ }
+{
+    let version = byte_at(area, 2);
+    let s = settings_from(3, version, area);
+    let place = fault(version, s);
+    let number = read_refusal(area, highest, place == 0);
+    read_answer(number, place, s)
+}
+
+// ---- writing
+
+// The number of the first refusal that is due, 0 where none is; fine says whether the settings are in range.
+fn write_refusal(version: u8, fine: bool, room: usize) -> u8
+    ensures { λ n. ⌜ n ≡ firstBad 0 (writeChecks version fine room) ⌝ }
+{
+    let known = is_known(version);
+    let length = length_of(version);
+    let n = or_fault(0, 2, known);
+    let n = or_fault(n, 5, fine);
+    or_fault(n, 13, length as usize <= room)
+}
+
+fn write_answer(number: u8, place: u8) -> Written
+    ensures { λ r. ⌜ writtenOf r ≡ answerBy number place written ⌝ }
+{
+    let none = number == 0;
+    if none {
+        return Written::Done;
+    }
+    let placed = number == 5;
+    if placed {
+        return Written::NotWritten(Refusal::At(5, place));
+    }
+    Written::NotWritten(Refusal::Number(number))
+}
+
+fn answer_writing(version: u8, s: Settings, room: usize) -> Written
+    ensures { λ r. ⌜ writtenOf r ≡ writeCard version s room ⌝ }
+{
+    let place = fault(version, s);
+    let number = write_refusal(version, place == 0, room);
+    write_answer(number, place)
+}
+
+// The record over the buffer's first bytes, as many as there is room for.
+fn put(version: u8, s: Settings, buf: &mut [u8])
+    ensures { λ _. ⌜ now (buf .exit) ≡ over (lengthOf version) (bytesOf version s) (now (buf .entry)) ⌝ }
+{
+    let n = length_of(version) as usize;
+    let bytes = encode(version, s);
+    copy_front(&bytes, n, buf);
+}
+
+// Writes the settings' record of this version at the buffer's start. Beyond the record the buffer stays as it was;
+// where the answer is a refusal, all of it does.
+pub fn write(version: u8, s: Settings, buf: &mut [u8]) -> Written
+    ensures { λ r. ⌜ writtenOf r ≡ writeCard version s (length (now (buf .entry))) ⌝ }
+    ensures { λ r. ⌜ now (buf .exit) ≡ leaves (writtenOf r) version s (now (buf .entry)) ⌝ }
+{
+    let answer = answer_writing(version, s, buf.len());
+    match answer {
+        Written::Done => {
+            put(version, s, buf);
+            Written::Done
+        }
+        Written::NotWritten(why) => Written::NotWritten(why),
+    }
+}
