@@ -1,7 +1,8 @@
 // A row's curve: the speed that one row of the card gives at an age.
+use card::Row;
 ghost use mathlib.Core.Path.{_≡_};
 ghost use Prim.Native.Nat.{_*_, _-_};
-ghost use Rattle.curve.specs.Curve.{curveOf, fallenOf};
+ghost use Rattle.curve.specs.Curve.{curveOf, fallenOf, rowSpeed};
 
 // Hundredths of km/h, `past` samples past the delay.
 fn fallen(initial: u8, last: u8, drop: u8, past: u16) -> u32
@@ -21,8 +22,8 @@ fn past(age: u16, delay: u8) -> u16
     if delay < age { age - delay } else { 0 }
 }
 
-// Hundredths of km/h that a row gives at an age.
-pub fn curve(initial: u8, last: u8, delay: u8, drop: u8, age: u16) -> u32
+// Hundredths of km/h at an age, of a row's four numbers.
+fn curve(initial: u8, last: u8, delay: u8, drop: u8, age: u16) -> u32
     ensures { λ r. ⌜ r ≡ curveOf initial last delay drop age ⌝ }
 {
     let flat = age <= (delay as u16);
@@ -31,4 +32,11 @@ pub fn curve(initial: u8, last: u8, delay: u8, drop: u8, age: u16) -> u32
         leaf::hundredths(initial),
         fallen(initial, last, drop, past(age, delay)),
     )
+}
+
+// Hundredths of km/h that a row gives at an age.
+pub fn row_speed(row: Row, age: u16) -> u32
+    ensures { λ r. ⌜ r ≡ rowSpeed row age ⌝ }
+{
+    curve(row.initial, row.last, row.delay, row.drop, age)
 }

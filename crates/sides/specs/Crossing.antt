@@ -29,22 +29,22 @@ isUnprotected Unprotected = true
 
 -- "Distances (80 m aside) count as reached at that distance or more."
 -- "Crossing: ends at 1,800 m."
-abbrev pub CROSSING_END : ℕ
-CROSSING_END = 18000000
+abbrev pub crossingEnd : ℕ
+crossingEnd = 18000000
 
 -- "Its icon shows 35 m after beacon 4, at once after 3."
-abbrev pub ICON_DISTANCE : ℕ
-ICON_DISTANCE = 350000
+abbrev pub iconDistance : ℕ
+iconDistance = 350000
 
 -- one sample on
 unfoldable pub crossingOlder : ℕ → Crossing → Crossing
 crossingOlder m c =
-    pick (leb CROSSING_END (furtherOf (c .distance) m)) noCrossing
+    pick (leb crossingEnd (furtherOf (c .distance) m)) noCrossing
     (record {
       kind = c .kind;
       age = agedOf (c .age);
       distance = furtherOf (c .distance) m;
-      shown = c .shown || leb ICON_DISTANCE (furtherOf (c .distance) m);
+      shown = c .shown || leb iconDistance (furtherOf (c .distance) m);
     })
 
 -- "Unprotected is row 5, its icon at once." "Unprotected takes over protected"; "a repeat of the same restarts only the distance".

@@ -50,11 +50,11 @@ limitsOf Stop = true
 limitsOf Zone = true
 
 -- the stop-zone rule: "row 4 is main and under 80 m from its reading"
-abbrev pub ZONE_DISTANCE : ℕ
-ZONE_DISTANCE = 800000
+abbrev pub zoneDistance : ℕ
+zoneDistance = 800000
 
 unfoldable pub nearOf : Main → Bool
-nearOf c = isBeforeStop (c .kind) && ltb (c .distance) ZONE_DISTANCE
+nearOf c = isBeforeStop (c .kind) && ltb (c .distance) zoneDistance
 
 -- "Increase, once, at ages 1..99 of the control (house), while main, makes it min(T, 100)": stop has use for it
 unfoldable pub mayIncrease : Main → Bool

@@ -10,15 +10,15 @@ use Rattle.signals.specs.declared.window.Waits.the-variants.{Nothing, On
 use Rattle.signals.specs.declared.window.Window.{Window}
 
 -- "A right press at ages 1..29 answers; age 30 is a miss": the time to the miss of a fresh window
-abbrev pub MISS : ℕ
-MISS = 30
+abbrev pub missTime : ℕ
+missTime = 30
 
 -- the stop zone: "lamp and press from age 10, miss at 40"
-abbrev pub ZONE_PRESS : ℕ
-ZONE_PRESS = 10
+abbrev pub zonePress : ℕ
+zonePress = 10
 
-abbrev pub ZONE_MISS : ℕ
-ZONE_MISS = 40
+abbrev pub zoneMiss : ℕ
+zoneMiss = 40
 
 -- no window
 abbrev pub closed : Window
@@ -48,7 +48,7 @@ waitsFor Two age = 8
 waitsFor Five age = 2
 waitsFor Six age = 4
 waitsFor Seven age = 16
-waitsFor Zone age = pick (leb ZONE_PRESS age) 16 0
+waitsFor Zone age = pick (leb zonePress age) 16 0
 waitsFor Nine age = 96
 waitsFor Limit age = 64
 

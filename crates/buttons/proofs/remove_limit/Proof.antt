@@ -1,0 +1,21 @@
+use borrow.Author.Needs.{needs}
+use Rattle.buttons.proofs.remove_limit.Statement.{statement}
+use Rattle.buttons.proofs.remove_limit.Tie as tie
+use Rattle.buttons.specs.Buttons.{limitRemoved}
+
+none-requires : tie.Need-none-requires
+none-requires c κs = search needs
+
+with-limit-requires : tie.Need-with-limit-requires
+with-limit-requires c κs = search needs
+
+returns : tie.Need-returns
+unfolding limitRemoved
+returns c = simp (c .with-limit .ensures, c .before .none .ensures, c .before .before .if1 .taken)
+
+returns-2 : tie.Need-returns-2
+unfolding limitRemoved
+returns-2 c = simp (c .if1 .left)
+
+pub remove-limit-spec : {M : Type 1} → statement M
+remove-limit-spec = tie.close (tie.spec none-requires with-limit-requires returns returns-2)

@@ -1,0 +1,128 @@
+-- Document 01, "The sample": ".. buttons, lowest bit first; ..". "Buttons: 0 announcement, 1 preannouncement, 2 caution, 3 conditional clear,
+-- 4 before-stop, 5 crossing, 6 limit, 7 override, 8 increase, 9 hide, 10 rearm." Bit k has weight 2 to the k.
+use Prim.Native.Nat.{ℕ}
+use mathlib.Core.Bool.{Bool, true, false, _&&_, not}
+use lib.Dec.{eqb}
+use Rattle.leaf.specs.Choosing.{pick}
+use Rattle.leaf.specs.Numbers.{bitOf}
+use Rattle.card.specs.declared.Row.{Row}
+use Rattle.signals.specs.declared.window.Window.{Window}
+use Rattle.signals.specs.declared.control.MainKind.the-variants.{Announcement, Preannouncement, Caution}
+use Rattle.signals.specs.Windows.{closed, answersOf, asksOf}
+use Rattle.signals.specs.MainControl.{mayIncrease, increased}
+use Rattle.signals.specs.Stop.{armedNow, isLit, takesPress, pressedOf}
+use Rattle.sides.specs.Crossing.{noOption, protectedSet}
+use Rattle.sides.specs.Limit.{noLimit, mayStep, stepped, hidden, removable}
+use Rattle.desk.specs.declared.state.Desk.{Desk}
+use Rattle.desk.specs.State.{withMain, withWindow, withSide, withArmed, withReminder, withCrossing, withOption, withLimit, takenOver, crossingSet, limitNow}
+use Rattle.curve.specs.Curve.{rowSpeed}
+
+-- ---- what an answer sets
+
+-- "Beacon 1 waits for button 0, 1, 2 (rows 1, 2, 3), 5 (unprotected crossing) or 6 (limit). Beacon 9 waits for 5 or 6": what the button
+-- of this weight sets, with the reading's age and distance
+unfoldable pub chosen : ℕ → ℕ → ℕ → Desk → Desk
+chosen weight age distance d =
+    pick (eqb weight 1) (takenOver Announcement age distance d)
+    (pick (eqb weight 2) (takenOver Preannouncement age distance d)
+    (pick (eqb weight 4) (takenOver Caution age distance d)
+    (pick (eqb weight 32) (crossingSet age distance d) (pick (eqb weight 64) (limitNow age d) d))))
+
+-- beacons 1 and 9 set what the button chooses; the others set theirs at the reading, and an answer only closes their window
+unfoldable pub answeredBy : ℕ → Window → Desk → Desk
+answeredBy weight w d = pick (asksOf (w .waits)) (chosen weight (w .age) (w .distance) d) d
+
+unfoldable pub mainAnswered : Bool → ℕ → Desk → Desk
+mainAnswered true weight d = withWindow closed (answeredBy weight (d .window) d)
+mainAnswered false weight d = d
+
+unfoldable pub sideAnswered : Bool → ℕ → Desk → Desk
+sideAnswered true weight d = withSide closed (answeredBy weight (d .side) d)
+sideAnswered false weight d = d
+
+-- ---- "A press serves one use: main, then side, then others."
+
+unfoldable pub pressed : Bool → ℕ → Desk → Desk
+pressed on weight d =
+    sideAnswered (on && not (answersOf (d .window) weight) && answersOf (d .side) weight) weight
+    (mainAnswered (on && answersOf (d .window) weight) weight d)
+
+-- a press that no window takes
+unfoldable pub freeFor : Bool → ℕ → Desk → Bool
+freeFor on weight d = on && not (answersOf (d .window) weight) && not (answersOf (d .side) weight)
+
+-- ---- the other uses
+
+-- "beacon 3 answered by 5 .. sets protected", with the age and distance of the 3, its icon at once; the option is used up
+unfoldable pub optionUsed : Bool → Desk → Desk
+optionUsed true d = withOption noOption (withCrossing (protectedSet (d .option .age) (d .option .distance) true (d .crossing)) d)
+optionUsed false d = d
+
+-- "Button 6 removes it"
+unfoldable pub limitRemoved : Bool → Desk → Desk
+limitRemoved true d = withLimit noLimit d
+limitRemoved false d = d
+
+-- the reminder's "press at ages 1..49"
+unfoldable pub reminderAnswered : Bool → Desk → Desk
+reminderAnswered true d = withReminder (pressedOf (d .reminder .phase)) d
+reminderAnswered false d = d
+
+-- "Override arms for ages 0..99, each press anew"
+unfoldable pub overrideArmed : Bool → Desk → Desk
+overrideArmed true d = withArmed armedNow d
+overrideArmed false d = d
+
+-- "Increase, once, .. makes it min(T, 100)."
+unfoldable pub stopIncreased : Bool → Desk → Desk
+stopIncreased true d = withMain (increased (d .main)) d
+stopIncreased false d = d
+
+-- "increase (if stop has no use for it) adds a 20 km/h step"
+unfoldable pub limitStepped : Bool → Desk → Desk
+limitStepped true d = withLimit (stepped (d .limit)) d
+limitStepped false d = d
+
+-- ---- each button in its turn
+
+-- 5 crossing: the windows, then beacon 3's option
+unfoldable pub crossingPressed : Bool → Desk → Desk
+crossingPressed on d = optionUsed (freeFor on 32 d && d .option .on) (pressed on 32 d)
+
+-- 6 limit: the windows, then the limit, where it may go
+unfoldable pub limitPressed : Bool → ℕ → Row → ℕ → Desk → Desk
+limitPressed on m row top d = limitRemoved (freeFor on 64 d && removable m (row .last) top (d .limit)) (pressed on 64 d)
+
+-- 7 override: "A press while lit doesn't arm." "Override is dead", in BTS
+unfoldable pub overridePressed : Bool → Desk → Desk
+overridePressed on d =
+    overrideArmed (on && not (d .bts) && not (isLit (d .reminder .phase)))
+    (reminderAnswered (on && not (d .bts) && takesPress (d .reminder)) d)
+
+-- 8 increase: stop, where it has use for it, else the limit
+unfoldable pub increasePressed : Bool → Row → ℕ → Desk → Desk
+increasePressed on row top d =
+    limitStepped (on && not (mayIncrease (d .main)) && mayStep (rowSpeed row (d .limit .age)) (row .last) top (d .limit))
+    (stopIncreased (on && mayIncrease (d .main)) d)
+
+-- 9 hide
+unfoldable pub hidePressed : Bool → Desk → Desk
+hidePressed true d = withLimit (hidden (d .limit)) d
+hidePressed false d = d
+
+-- 0 to 4: only windows have use for them
+unfoldable pub windowPresses : ℕ → Desk → Desk
+windowPresses b d =
+    pressed (bitOf b 16) 16 (pressed (bitOf b 8) 8 (pressed (bitOf b 4) 4 (pressed (bitOf b 2) 2 (pressed (bitOf b 1) 1 d))))
+
+-- "lowest bit first"; 10, rearm, belongs to the brake
+unfoldable pub allPresses : ℕ → ℕ → Row → ℕ → Desk → Desk
+allPresses b m row top d =
+    hidePressed (bitOf b 512)
+    (increasePressed (bitOf b 256) row top
+    (overridePressed (bitOf b 128)
+    (limitPressed (bitOf b 64) m row top (crossingPressed (bitOf b 32) (windowPresses b d)))))
+
+-- the buttons' step: a sample without a press leaves the desk as it is
+unfoldable pub pressesOf : ℕ → ℕ → Row → ℕ → Desk → Desk
+pressesOf b m row top d = pick (eqb b 0) d (allPresses b m row top d)

@@ -1,0 +1,184 @@
+// The desk's state: its members, what each new main control does to them, and what a mode change drops.
+use sides::crossing::Crossing;
+use sides::crossing::CrossingOption;
+use sides::limit::Limit;
+use signals::control::Main;
+use signals::control::MainKind;
+use signals::stop::Alongside;
+use signals::stop::Override;
+use signals::stop::Phase;
+use signals::stop::Reminder;
+use signals::window::Window;
+ghost use mathlib.Core.Path.{_≡_};
+ghost use Rattle.desk.specs.State.{withBts, withCode, withCause, withMain, withWindow, withSide, withAlongside, withArmed, withReminder, withCrossing, withOption, withLimit, takenOver, crossingSet, limitNow, freshDesk, restingOf, modeChanged};
+
+// `bts` is the mode, `code` the last code, `cause` the one that stands (0: no brake). `window` is the main window.
+pub struct Desk {
+    pub bts: bool,
+    pub code: u8,
+    pub cause: u8,
+    pub main: Main,
+    pub window: Window,
+    pub side: Window,
+    pub alongside: Alongside,
+    pub armed: Override,
+    pub reminder: Reminder,
+    pub crossing: Crossing,
+    pub option: CrossingOption,
+    pub limit: Limit,
+}
+
+impl Desk {
+    pub fn with_bts(mut self, bts: bool) -> Desk
+        ensures { λ r. ⌜ r ≡ withBts bts self ⌝ }
+    {
+        self.bts = bts;
+        self
+    }
+
+    pub fn with_code(mut self, code: u8) -> Desk
+        ensures { λ r. ⌜ r ≡ withCode code self ⌝ }
+    {
+        self.code = code;
+        self
+    }
+
+    pub fn with_cause(mut self, cause: u8) -> Desk
+        ensures { λ r. ⌜ r ≡ withCause cause self ⌝ }
+    {
+        self.cause = cause;
+        self
+    }
+
+    pub fn with_main(mut self, main: Main) -> Desk
+        ensures { λ r. ⌜ r ≡ withMain main self ⌝ }
+    {
+        self.main = main;
+        self
+    }
+
+    pub fn with_window(mut self, window: Window) -> Desk
+        ensures { λ r. ⌜ r ≡ withWindow window self ⌝ }
+    {
+        self.window = window;
+        self
+    }
+
+    pub fn with_side(mut self, side: Window) -> Desk
+        ensures { λ r. ⌜ r ≡ withSide side self ⌝ }
+    {
+        self.side = side;
+        self
+    }
+
+    pub fn with_alongside(mut self, alongside: Alongside) -> Desk
+        ensures { λ r. ⌜ r ≡ withAlongside alongside self ⌝ }
+    {
+        self.alongside = alongside;
+        self
+    }
+
+    pub fn with_armed(mut self, armed: Override) -> Desk
+        ensures { λ r. ⌜ r ≡ withArmed armed self ⌝ }
+    {
+        self.armed = armed;
+        self
+    }
+
+    pub fn with_reminder(mut self, reminder: Reminder) -> Desk
+        ensures { λ r. ⌜ r ≡ withReminder reminder self ⌝ }
+    {
+        self.reminder = reminder;
+        self
+    }
+
+    pub fn with_crossing(mut self, crossing: Crossing) -> Desk
+        ensures { λ r. ⌜ r ≡ withCrossing crossing self ⌝ }
+    {
+        self.crossing = crossing;
+        self
+    }
+
+    pub fn with_option(mut self, option: CrossingOption) -> Desk
+        ensures { λ r. ⌜ r ≡ withOption option self ⌝ }
+    {
+        self.option = option;
+        self
+    }
+
+    pub fn with_limit(mut self, limit: Limit) -> Desk
+        ensures { λ r. ⌜ r ≡ withLimit limit self ⌝ }
+    {
+        self.limit = limit;
+        self
+    }
+
+    // A main control other than stop takes over, with the age and distance that its setting gives it.
+    pub fn take_over(self, kind: MainKind, age: u16, distance: u32) -> Desk
+        ensures { λ r. ⌜ r ≡ takenOver kind age distance self ⌝ }
+    {
+        let main = self.main;
+        let alongside = self.alongside;
+        self.with_alongside(alongside.after(main))
+            .with_reminder(Reminder::fresh(Phase::Off))
+            .with_main(Main::new(kind, age, distance))
+    }
+
+    // An unprotected crossing is set, with the age and distance of its reading.
+    pub fn set_unprotected(self, age: u16, distance: u32) -> Desk
+        ensures { λ r. ⌜ r ≡ crossingSet age distance self ⌝ }
+    {
+        let crossing = self.crossing;
+        self.with_crossing(crossing.set_unprotected(age, distance))
+    }
+
+    // The limit is set by a reading of this age.
+    pub fn set_limit(self, age: u16) -> Desk
+        ensures { λ r. ⌜ r ≡ limitNow age self ⌝ }
+    {
+        let limit = self.limit;
+        self.with_limit(limit.set(age))
+    }
+
+    // A desk as it opens: in CONV with the start row as main, last code 0, no brake.
+    pub fn fresh() -> Desk
+        ensures { λ r. ⌜ r ≡ freshDesk ⌝ }
+    {
+        Desk {
+            bts: false,
+            code: 0,
+            cause: 0,
+            main: Main::new(MainKind::Start, 0, 0),
+            window: Window::closed(),
+            side: Window::closed(),
+            alongside: Alongside::none(),
+            armed: Override::disarmed(),
+            reminder: Reminder::fresh(Phase::Off),
+            crossing: Crossing::none(),
+            option: CrossingOption::none(),
+            limit: Limit::none(),
+        }
+    }
+
+    // The mode changes: entering BTS drops all, leaving drops all and sets start. Last code and brake stay.
+    pub fn change_mode(self, bts: bool) -> Desk
+        ensures { λ r. ⌜ r ≡ modeChanged bts self ⌝ }
+    {
+        Desk::fresh()
+            .with_bts(bts)
+            .with_code(self.code)
+            .with_cause(self.cause)
+            .with_main(resting(bts))
+    }
+}
+
+// The main control that a mode change leaves: none in BTS, start in CONV.
+fn resting(bts: bool) -> Main
+    ensures { λ r. ⌜ r ≡ restingOf bts ⌝ }
+{
+    if bts {
+        Main::new(MainKind::Clear, 0, 0)
+    } else {
+        Main::new(MainKind::Start, 0, 0)
+    }
+}

@@ -1,0 +1,43 @@
+-- Document 01, "Controls": the brake and the lamps.
+use Prim.Native.Nat.{ℕ, min}
+use mathlib.Core.Bool.{Bool, true, false, _&&_, _||_, not}
+use lib.Dec.{eqb}
+use lib.Bits.{bitOr}
+use Rattle.leaf.specs.Choosing.{pick}
+use Rattle.signals.specs.Windows.{waitsFor}
+use Rattle.signals.specs.MainControl.{increaseLit}
+use Rattle.signals.specs.Stop.{isLit}
+use Rattle.desk.specs.declared.state.Desk.{Desk}
+use Rattle.desk.specs.State.{withCause}
+
+-- "lowest number within a sample"; cause 0 is none
+unfoldable pub lowest : ℕ → ℕ → ℕ
+lowest a b = pick (eqb a 0) b (pick (eqb b 0) a (min a b))
+
+-- "Any cause puts the brake on; the first stands, lowest number within a sample. It goes off in a standstill sample with rearm, if on before
+-- and no cause arises."
+unfoldable pub standingCause : ℕ → ℕ → Bool → ℕ
+standingCause before arose rearm = pick (eqb arose 0) (pick rearm 0 before) (pick (eqb before 0) arose before)
+
+unfoldable pub braked : ℕ → Bool → Desk → Desk
+braked arose rearm d = withCause (standingCause (d .cause) arose rearm) d
+
+-- "Lamps, bits as buttons:"
+abbrev pub lampIf : Bool → ℕ → ℕ
+lampIf lit weight = pick lit weight 0
+
+-- "what a window waits for, beacon 3's option,"
+unfoldable pub windowLamps : Desk → ℕ
+windowLamps d =
+    bitOr (waitsFor (d .window .waits) (d .window .age))
+    (bitOr (waitsFor (d .side .waits) (d .side .age)) (lampIf (d .option .on) 32))
+
+-- "override armed or reminded, increase for stop (ages 0..99, till used), .., 10 when braked at standstill."
+unfoldable pub controlLamps : Bool → Desk → ℕ
+controlLamps still d =
+    bitOr (lampIf (d .armed .armed || isLit (d .reminder .phase)) 128)
+    (bitOr (lampIf (increaseLit (d .main)) 256) (lampIf (still && not (eqb (d .cause) 0)) 1024))
+
+-- "6 when limit is removable"
+unfoldable pub lampsOf : Bool → Bool → Desk → ℕ
+lampsOf removable still d = bitOr (windowLamps d) (bitOr (lampIf removable 64) (controlLamps still d))

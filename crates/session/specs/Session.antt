@@ -1,0 +1,92 @@
+-- Document 01, "The sample": the session, its opening, and a sample with its refusals.
+use Prim.Native.Nat.{ℕ, _*_}
+use mathlib.Core.Bool.{Bool, true, false, _&&_, _||_}
+use mathlib.Core.List.{List, [], _∷_}
+use lib.Dec.{leb, eqb}
+use Rattle.leaf.specs.Choosing.{pick}
+use Rattle.leaf.specs.Numbers.{within}
+use Rattle.leaf.specs.Checks.{Check, firstBad}
+use Rattle.leaf.specs.Answers.{Answer, given, refused, refusedAt, refusalOf}
+use Rattle.leaf.specs.declared.Refusal.the-variants.{Number}
+use Rattle.card.specs.declared.Settings.{Settings}
+use Rattle.card.specs.Ranges.{faultOf, checkSettings}
+use Rattle.desk.specs.State.{freshDesk}
+use Rattle.desk.specs.Clock.{sameMode}
+use Rattle.sample.specs.declared.step.Sample.{Sample}
+use Rattle.sample.specs.declared.step.Stepped.{Stepped}
+use Rattle.sample.specs.Sample.{stepOf}
+use Rattle.session.specs.Types.{typeSpeed, typeAllowed}
+use Rattle.session.specs.Ranges.{deskInside}
+use Rattle.session.specs.declared.Session.{Session}
+use Rattle.session.specs.declared.Opened.{Opened}
+use Rattle.session.specs.declared.Opened.the-variants as opened
+use Rattle.session.specs.declared.Outcome.the-variants as outcome
+use Rattle.session.specs.declared.Sampled.{Sampled}
+
+-- ---- opening: "opening 5, 7"
+
+-- "It opens in CONV with the start row as main (age 1 in the first sample), last code 0."
+abbrev pub freshSession : Settings → ℕ → Session
+freshSession settings train = record { settings = settings; train = train; desk = freshDesk }
+
+-- what each case of opening's answer is on paper
+abbrev pub openedOf : Opened → Answer Session
+openedOf (opened.Ready s) = given s
+openedOf (opened.Refused r) = refusalOf r
+
+-- the settings judged, then the train type; "opening takes no version": they are judged as beside version 2
+abbrev pub openedAfter : Answer Unit → Settings → ℕ → Answer Session
+openedAfter (given u) settings train = pick (typeAllowed train (settings .vmax)) (given (freshSession settings train)) (refused 7)
+openedAfter (refused n) settings train = refused n
+openedAfter (refusedAt n place) settings train = refusedAt n place
+
+unfoldable pub openSession : Settings → ℕ → Answer Session
+openSession settings train = openedAfter (checkSettings 2 settings) settings train
+
+-- ---- the ranges: "mode, cause, code and settings in range, and a train type that 7 allows"
+
+unfoldable pub settingsInside : Settings → Bool
+settingsInside settings = eqb (faultOf 2 settings) 0
+
+unfoldable pub insideOf : Session → Bool
+insideOf s = settingsInside (s .settings) && typeAllowed (s .train) (s .settings .vmax) && deskInside (s .desk)
+
+-- ---- a sample: "sample 8, 9, 10, 11"
+
+-- "Standstill is a sample without pulses."
+abbrev pub standstill : ℕ → Bool
+standstill pulses = eqb pulses 0
+
+-- "mode 1 CONV or 2 BTS"
+abbrev pub inBts : ℕ → Bool
+inBts mode = eqb mode 2
+
+-- 8 "session out of its ranges", 9 "beacon, buttons or mode out of range", 10 "pulses × tick length above 100,000", 11 "mode changed in a
+-- sample with pulses"
+abbrev pub sampleChecks : Session → ℕ → ℕ → ℕ → ℕ → List Check
+sampleChecks s pulses beacon buttons mode =
+    (8, insideOf s)
+    ∷ (9, leb beacon 11 && leb buttons 2047 && leb 1 mode && leb mode 2)
+    ∷ (10, leb (pulses * s .settings .tick) 100000)
+    ∷ (11, sameMode (s .desk .bts) (inBts mode) || standstill pulses)
+    ∷ []
+
+-- "m = pulses × tick length is the speed in mm/s and the travel in tenths of a millimetre."
+abbrev pub carried : Session → ℕ → ℕ → ℕ → ℕ → Sample
+carried s pulses beacon buttons mode =
+    record { m = pulses * s .settings .tick; still = standstill pulses; beacon = beacon; buttons = buttons; bts = inBts mode }
+
+-- "The session is handed in and handed back with each sample's answer."
+abbrev pub sampledAs : Session → Stepped → Sampled
+sampledAs s e =
+    record { session = record { settings = s .settings; train = s .train; desk = e .desk }; outcome = outcome.Answered (e .answer) }
+
+unfoldable pub ranOf : Sample → Session → Sampled
+ranOf x s = sampledAs s (stepOf (s .settings) (typeSpeed (s .train) * 100) x (s .desk))
+
+-- "A refusal returns its number .. and leaves .. the handed-in session unchanged."
+unfoldable pub sampleOf : Session → ℕ → ℕ → ℕ → ℕ → Sampled
+sampleOf s pulses beacon buttons mode =
+    let number : ℕ = firstBad 0 (sampleChecks s pulses beacon buttons mode) in
+    pick (eqb number 0) (ranOf (carried s pulses beacon buttons mode) s)
+    (record { session = s; outcome = outcome.Refused (Number number) })

@@ -1,0 +1,187 @@
+// A session: settings, train type and desk. Opening makes one; each sample hands it in and hands it back with the answer.
+//
+// No function has a `requires`. A session, or a sample, that document 01 refuses is refused by its number, and the session
+// handed in comes back unchanged.
+mod ranges;
+
+use card::Checked;
+use card::Settings;
+use card::check;
+use desk::state::Desk;
+use leaf::Refusal;
+use leaf::or_fault;
+use ranges::desk_inside;
+use sample::step::Answer;
+use sample::step::Sample;
+use sample::step::step;
+ghost use mathlib.Core.Path.{_≡_};
+ghost use Prim.Native.Nat.{_*_};
+ghost use Rattle.leaf.specs.Checks.{firstBad};
+ghost use Rattle.session.specs.Types.{typeSpeed, typeAllowed};
+ghost use Rattle.session.specs.Session.{freshSession, openedOf, openSession, settingsInside, insideOf, standstill, sampleChecks, carried, ranOf, sampledAs, sampleOf};
+
+pub struct Session {
+    pub settings: Settings,
+    pub train: u8,
+    pub desk: Desk,
+}
+
+// What opening gives.
+pub enum Opened {
+    Ready(Session),
+    Refused(Refusal),
+}
+
+// What a sample is answered with.
+pub enum Outcome {
+    Answered(Answer),
+    Refused(Refusal),
+}
+
+// The session after a sample, beside what it is answered with; where it is refused, the session handed in.
+pub struct Sampled {
+    pub session: Session,
+    pub outcome: Outcome,
+}
+
+// T of a train type, km/h; 0 where there is no such type.
+pub fn type_speed(train: u8) -> u8
+    ensures { λ r. ⌜ r ≡ typeSpeed train ⌝ }
+{
+    match train {
+        1 => 80,
+        2 => 90,
+        3 => 100,
+        4 => 120,
+        5 => 140,
+        6 => 160,
+        7 => 180,
+        8 => 200,
+        _ => 0,
+    }
+}
+
+// Is the train type one of the eight, and no faster than vmax.
+pub fn type_allowed(train: u8, vmax: u8) -> bool
+    ensures { λ r. ⌜ r ≡ typeAllowed train vmax ⌝ }
+{
+    (1 <= train) & (train <= 8) & (type_speed(train) <= vmax)
+}
+
+// Standstill is a sample without pulses.
+fn is_standing(pulses: u16) -> bool
+    ensures { λ r. ⌜ r ≡ standstill pulses ⌝ }
+{
+    pulses == 0
+}
+
+fn settings_inside(settings: Settings) -> bool
+    ensures { λ r. ⌜ r ≡ settingsInside settings ⌝ }
+{
+    let checked = check(2, settings);
+    match checked {
+        Checked::InRange => true,
+        Checked::FaultAt(_) => false,
+    }
+}
+
+impl Session {
+    // A fresh session: in CONV, with the start row as main.
+    fn fresh(settings: Settings, train: u8) -> Session
+        ensures { λ r. ⌜ r ≡ freshSession settings train ⌝ }
+    {
+        Session {
+            settings: settings,
+            train: train,
+            desk: Desk::fresh(),
+        }
+    }
+
+    // Opens a session from settings and train type: refusal 5 with its place, then 7.
+    pub fn open(settings: Settings, train: u8) -> Opened
+        ensures { λ r. ⌜ openedOf r ≡ openSession settings train ⌝ }
+    {
+        let checked = check(2, settings);
+        let allowed = type_allowed(train, settings.vmax);
+        match checked {
+            Checked::FaultAt(place) => Opened::Refused(Refusal::At(5, place)),
+            Checked::InRange => {
+                if allowed {
+                    Opened::Ready(Session::fresh(settings, train))
+                } else {
+                    Opened::Refused(Refusal::Number(7))
+                }
+            }
+        }
+    }
+
+    // Is every number of the session in its range.
+    fn is_inside(self) -> bool
+        ensures { λ r. ⌜ r ≡ insideOf self ⌝ }
+    {
+        let settings = self.settings;
+        let desk = self.desk;
+        settings_inside(settings) & type_allowed(self.train, settings.vmax) & desk_inside(desk)
+    }
+
+    // The number that refuses the sample, 0 where it is accepted.
+    fn refusal(self, pulses: u16, beacon: u8, buttons: u16, mode: u8) -> u8
+        ensures { λ r. ⌜ r ≡ firstBad 0 (sampleChecks self pulses beacon buttons mode) ⌝ }
+    {
+        let settings = self.settings;
+        let desk = self.desk;
+        let inside = self.is_inside();
+        let m = leaf::travel(pulses, settings.tick);
+        let bts = mode == 2;
+        let same = (desk.bts & bts) | (!desk.bts & !bts);
+        let fields = (beacon <= 11) & (buttons <= 2047) & (1 <= mode) & (mode <= 2);
+        let n = or_fault(0, 8, inside);
+        let n = or_fault(n, 9, fields);
+        let n = or_fault(n, 10, m <= 100000);
+        or_fault(n, 11, same | is_standing(pulses))
+    }
+
+    // The sample is run: the session after it, and its answer.
+    fn run(self, x: Sample) -> Sampled
+        ensures { λ r. ⌜ r ≡ ranOf x self ⌝ }
+    {
+        let settings = self.settings;
+        let desk = self.desk;
+        let top = leaf::hundredths(type_speed(self.train));
+        let stepped = step(desk, settings, top, x);
+        let next = stepped.desk;
+        let answer = stepped.answer;
+        Sampled {
+            session: Session {
+                settings: settings,
+                train: self.train,
+                desk: next,
+            },
+            outcome: Outcome::Answered(answer),
+        }
+    }
+
+    // One sample every 100 ms: pulses, beacon 0..11, buttons newly pressed, mode 1 CONV or 2 BTS.
+    pub fn sample(self, pulses: u16, beacon: u8, buttons: u16, mode: u8) -> Sampled
+        ensures { λ r. ⌜ r ≡ sampleOf self pulses beacon buttons mode ⌝ }
+    {
+        let settings = self.settings;
+        let number = self.refusal(pulses, beacon, buttons, mode);
+        let accepted = number == 0;
+        let x = Sample {
+            m: leaf::travel(pulses, settings.tick),
+            still: is_standing(pulses),
+            beacon: beacon,
+            buttons: buttons,
+            bts: mode == 2,
+        };
+        if accepted {
+            self.run(x)
+        } else {
+            Sampled {
+                session: self,
+                outcome: Outcome::Refused(Refusal::Number(number)),
+            }
+        }
+    }
+}
