@@ -51,7 +51,7 @@ abbrev pub limits : Settings → ℕ → Desk → List Standing
 limits s top d = (true, s .vmax * 100) ∷ limitsBelow s top d
 
 -- the least so far, with one more limit where it stands
-abbrev pub leastIf : Bool → ℕ → ℕ → ℕ
+unfoldable pub leastIf : Bool → ℕ → ℕ → ℕ
 leastIf stands limit soFar = pick stands (min soFar limit) soFar
 
 -- the least of what was found so far and of the limits that stand

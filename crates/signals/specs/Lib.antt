@@ -1,4 +1,3 @@
 pub mod Windows
 pub mod MainControl
 pub mod Stop
-pub mod WindowLaws

@@ -1,1 +1,0 @@
--- What holds of every window, whatever it waits for and however long it is.
