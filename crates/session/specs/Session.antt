@@ -9,7 +9,7 @@ use Rattle.leaf.specs.Checks.{Check, firstBad}
 use Rattle.leaf.specs.Answers.{Answer, given, refused, refusedAt, refusalOf}
 use Rattle.leaf.specs.declared.Refusal.the-variants.{Number}
 use Rattle.card.specs.declared.Settings.{Settings}
-use Rattle.card.specs.Ranges.{faultOf, checkSettings}
+use Rattle.card.specs.Ranges.{checkSettings}
 use Rattle.desk.specs.State.{freshDesk}
 use Rattle.desk.specs.Clock.{sameMode}
 use Rattle.sample.specs.declared.step.Sample.{Sample}
@@ -45,8 +45,15 @@ openSession settings train = openedAfter (checkSettings 2 settings) settings tra
 
 -- ---- the ranges: "mode, cause, code and settings in range, and a train type that 7 allows"
 
+-- was it given, or refused
+abbrev pub isGiven : {A : Type 0} → Answer A → Bool
+isGiven (given a) = true
+isGiven (refused n) = false
+isGiven (refusedAt n place) = false
+
+-- settings are judged as opening judges them
 unfoldable pub settingsInside : Settings → Bool
-settingsInside settings = eqb (faultOf 2 settings) 0
+settingsInside settings = isGiven (checkSettings 2 settings)
 
 unfoldable pub insideOf : Session → Bool
 insideOf s = settingsInside (s .settings) && typeAllowed (s .train) (s .settings .vmax) && deskInside (s .desk)
@@ -71,6 +78,10 @@ sampleChecks s pulses beacon buttons mode =
     ∷ (11, sameMode (s .desk .bts) (inBts mode) || standstill pulses)
     ∷ []
 
+-- the number of the refusal, 0 where the sample is accepted
+unfoldable pub refusedBy : Session → ℕ → ℕ → ℕ → ℕ → ℕ
+refusedBy s pulses beacon buttons mode = firstBad 0 (sampleChecks s pulses beacon buttons mode)
+
 -- "m = pulses × tick length is the speed in mm/s and the travel in tenths of a millimetre."
 abbrev pub carried : Session → ℕ → ℕ → ℕ → ℕ → Sample
 carried s pulses beacon buttons mode =
@@ -87,6 +98,5 @@ ranOf x s = sampledAs s (stepOf (s .settings) (typeSpeed (s .train) * 100) x (s 
 -- "A refusal returns its number .. and leaves .. the handed-in session unchanged."
 unfoldable pub sampleOf : Session → ℕ → ℕ → ℕ → ℕ → Sampled
 sampleOf s pulses beacon buttons mode =
-    let number : ℕ = firstBad 0 (sampleChecks s pulses beacon buttons mode) in
-    pick (eqb number 0) (ranOf (carried s pulses beacon buttons mode) s)
-    (record { session = s; outcome = outcome.Refused (Number number) })
+    pick (eqb (refusedBy s pulses beacon buttons mode) 0) (ranOf (carried s pulses beacon buttons mode) s)
+    (record { session = s; outcome = outcome.Refused (Number (refusedBy s pulses beacon buttons mode)) })

@@ -16,9 +16,8 @@ use sample::step::Sample;
 use sample::step::step;
 ghost use mathlib.Core.Path.{_≡_};
 ghost use Prim.Native.Nat.{_*_};
-ghost use Rattle.leaf.specs.Checks.{firstBad};
 ghost use Rattle.session.specs.Types.{typeSpeed, typeAllowed};
-ghost use Rattle.session.specs.Session.{freshSession, openedOf, openSession, settingsInside, insideOf, standstill, sampleChecks, carried, ranOf, sampledAs, sampleOf};
+ghost use Rattle.session.specs.Session.{freshSession, openedOf, openSession, settingsInside, insideOf, standstill, refusedBy, ranOf, sampleOf};
 
 pub struct Session {
     pub settings: Settings,
@@ -126,7 +125,7 @@ impl Session {
 
     // The number that refuses the sample, 0 where it is accepted.
     fn refusal(self, pulses: u16, beacon: u8, buttons: u16, mode: u8) -> u8
-        ensures { λ r. ⌜ r ≡ firstBad 0 (sampleChecks self pulses beacon buttons mode) ⌝ }
+        ensures { λ r. ⌜ r ≡ refusedBy self pulses beacon buttons mode ⌝ }
     {
         let settings = self.settings;
         let desk = self.desk;
