@@ -14,9 +14,8 @@ use Rattle.leaf.specs.Answers.{Answer, given, refused, refusedAt, refusalOf}
 use Rattle.leaf.specs.declared.Refusal.{Refusal}
 use Rattle.leaf.specs.declared.Refusal.the-variants.{Number, At}
 use Rattle.card.specs.Card.{lengthOf}
-use Rattle.card.specs.Ranges.{faultOf}
 use Rattle.card.specs.Reading.{answerBy}
-use Rattle.card.specs.Writing.{bytesOf, recordOf, writeChecks, writeCard, written, leaves}
+use Rattle.card.specs.Writing.{bytesOf, recordOf, recordChecks, writeCard, written, leaves}
 use Rattle.card.specs.declared.Settings.{Settings}
 
 -- ---- what an answer says of the number by which it was given
@@ -62,9 +61,9 @@ unfolding bytesOf
 length-bytesOf v s = refl
 
 -- where the writer is done, its version, the settings and the room passed
-pub done-checks : (v : ℕ) (s : Settings) (room : ℕ) → writeCard v s room ≡ given written → Fine (writeChecks v (eqb (faultOf v s) 0) room)
+pub done-checks : (v : ℕ) (s : Settings) (room : ℕ) → writeCard v s room ≡ given written → Fine (recordChecks v s room)
 unfolding writeCard
-done-checks v s room h = none-bad 0 (writeChecks v (eqb (faultOf v s) 0) room) tt (given-by _ _ _ _ h .0) .1
+done-checks v s room h = none-bad 0 (recordChecks v s room) tt (given-by _ _ _ _ h .0) .1
 
 -- a record that the writer is done with was put whole over the buffer's first bytes
 pub put-whole : (v : ℕ) (s : Settings) (buffer : List ℕ) → writeCard v s (length buffer) ≡ given written → over (lengthOf v) (bytesOf v s) buffer ≡ recordOf v s ++ drop (lengthOf v) buffer

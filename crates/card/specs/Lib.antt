@@ -3,3 +3,4 @@ pub mod Ranges
 pub mod Reading
 pub mod Writing
 pub mod Laws
+pub mod Plain
