@@ -1,3 +1,5 @@
 pub mod InRange
 pub mod Accepted
 pub mod Places
+pub mod Determined
+pub mod RoundTrip
