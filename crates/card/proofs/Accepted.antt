@@ -78,31 +78,33 @@ module _ (area : List ℕ) (h : ℕ) where
       let highest = within-met (f .0) in
       let stated = eqb-true (word area 0) (lengthOf (byte area 2)) (f .1 .1 .1 .1 .0) in
       let fits = leb-true (lengthOf (byte area 2)) (length area) (f .1 .1 .1 .1 .1 .0) in
-      let m = fault-met (byte area 2) (settingsOf area) (eqb-true _ _ (f .1 .1 .1 .1 .1 .1 .0)) in
-      (record {
-        highest-low = highest .0;
-        highest-high = highest .1;
-        version-low = not-zero (byte area 2) (f .1 .1 .0);
-        version-high = leb-true _ _ (f .1 .1 .1 .0);
-        length-1 = λ one. (rw one at stated, rw one at fits);
-        length-2 = λ two. (rw two at stated, rw two at fits);
-        vmax-low = m .vmax-low;
-        vmax-high = m .vmax-high;
-        tick-low = m .tick-low;
-        tick-high = m .tick-high;
-        bts-low = m .bts-low;
-        bts-high = m .bts-high;
-        clear = m .clear;
-        announcement = m .announcement;
-        preannouncement = m .preannouncement;
-        caution = m .caution;
-        before-stop = m .before-stop;
-        crossing = m .crossing;
-        limit = m .limit;
-        start = m .start;
-        functions-high = λ two. rw (functions-2 (byte area 2) area two) at (m .functions-high);
-        reminder-on = card-reminder (byte area 2) area m;
-      }, sym (c .1))
+      let m = fault-met (byte area 2) (settingsOf area) (eqb-true _ _ (f .1 .1 .1 .1 .1 .1 .0)) in (
+        record {
+          highest-low = highest .0;
+          highest-high = highest .1;
+          version-low = not-zero (byte area 2) (f .1 .1 .0);
+          version-high = leb-true _ _ (f .1 .1 .1 .0);
+          length-1 = λ one. (rw one at stated, rw one at fits);
+          length-2 = λ two. (rw two at stated, rw two at fits);
+          vmax-low = m .vmax-low;
+          vmax-high = m .vmax-high;
+          tick-low = m .tick-low;
+          tick-high = m .tick-high;
+          bts-low = m .bts-low;
+          bts-high = m .bts-high;
+          clear = m .clear;
+          announcement = m .announcement;
+          preannouncement = m .preannouncement;
+          caution = m .caution;
+          before-stop = m .before-stop;
+          crossing = m .crossing;
+          limit = m .limit;
+          start = m .start;
+          functions-high = λ two. rw (functions-2 (byte area 2) area two) at (m .functions-high);
+          reminder-on = card-reminder (byte area 2) area m;
+        },
+        sym (c .1),
+      )
 
   -- the settings of a card that meets the facts are in range
   pub settings-met : CardMet area h → SettingsMet (byte area 2) (settingsOf area)
@@ -128,13 +130,13 @@ module _ (area : List ℕ) (h : ℕ) where
         start = m .start;
         functions-none = functions-1 (byte area 2) area;
         functions-high =
-          ⊎-elim (λ one. rw (functions-1 (byte area 2) area one) (lit≤ tt)) (λ two. rw (functions-2 (byte area 2) area two) (m .functions-high two)) cases;
+            ⊎-elim (λ one. rw (functions-1 (byte area 2) area one) (lit≤ tt)) (λ two. rw (functions-2 (byte area 2) area two) (m .functions-high two)) cases;
         reminder-on = λ on.
-          ⊎-elim (λ one. absurd (none on one))
-          (λ two. rw (eq-eqb _ _ on) (m .reminder-on two (rw (functions-2 (byte area 2) area two) at on))) cases;
+            ⊎-elim (λ one. absurd (none on one))
+            (λ two. rw (eq-eqb _ _ on) (m .reminder-on two (rw (functions-2 (byte area 2) area two) at on))) cases;
         reminder-off = λ off.
-          let e = ne-eqb (F / 4 % 2) 1 (λ on. omega arith) in
-          (rw e, rw e);
+            let e = ne-eqb (F / 4 % 2) 1 (λ on. omega arith) in
+            (rw e, rw e);
       }
 
   -- a card that meets the facts is accepted, and read as the settings of its bytes
@@ -144,11 +146,25 @@ module _ (area : List ℕ) (h : ℕ) where
       let low = m .version-low in
       let high : v ≤ 2 = omega (arith, m .version-high, m .highest-high) in
       let long : 3 ≤ length area = length-met (λ n. 3 ≤ length area) low high (λ e. omega (arith, m .length-1 e .1)) (λ e. omega (arith, m .length-2 e .1)) in
-      checks-read area h
-      (met-within (m .highest-low) (m .highest-high), (le-leb _ _ long, (rw (ne-eqb v 0 (λ e. omega arith)), (le-leb _ _ (m .version-high),
-      (eq-eqb _ _ (length-met (λ n. word area 0 ≡ n) low high (λ e. m .length-1 e .0) (λ e. m .length-2 e .0)),
-      (le-leb _ _ (length-met (λ n. n ≤ length area) low high (λ e. m .length-1 e .1) (λ e. m .length-2 e .1)),
-      (eq-eqb _ _ (met-fault v (settingsOf area) (settings-met m)), tt)))))))
+      checks-read area h (
+        met-within (m .highest-low) (m .highest-high),
+        (
+          le-leb _ _ long,
+          (
+            rw (ne-eqb v 0 (λ e. omega arith)),
+            (
+              le-leb _ _ (m .version-high),
+              (
+                eq-eqb _ _ (length-met (λ n. word area 0 ≡ n) low high (λ e. m .length-1 e .0) (λ e. m .length-2 e .0)),
+                (
+                  le-leb _ _ (length-met (λ n. n ≤ length area) low high (λ e. m .length-1 e .1) (λ e. m .length-2 e .1)),
+                  (eq-eqb _ _ (met-fault v (settingsOf area) (settings-met m)), tt),
+                ),
+              ),
+            ),
+          ),
+        ),
+      )
 
 -- ---- the check and the writer
 
@@ -170,9 +186,13 @@ pub written-when : (v : ℕ) (s : Settings) (room : ℕ) → WriteMet v s room �
 unfolding writeCard
 written-when v s room m =
     answer-given _ _ _
-    (fine-none (recordChecks v s room)
-    (met-within (m .version-low) (m .version-high), (eq-eqb _ _ (met-fault v s (m .settings)),
-    (le-leb _ _ (length-met (λ n. n ≤ room) (m .version-low) (m .version-high) (m .room-1) (m .room-2)), tt))))
+    (fine-none (recordChecks v s room) (
+      met-within (m .version-low) (m .version-high),
+      (
+        eq-eqb _ _ (met-fault v s (m .settings)),
+        (le-leb _ _ (length-met (λ n. n ≤ room) (m .version-low) (m .version-high) (m .room-1) (m .room-2)), tt),
+      ),
+    ))
 
 pub written-only : (v : ℕ) (s : Settings) (room : ℕ) → writeCard v s room ≡ given written → WriteMet v s room
 written-only v s room h =

@@ -114,26 +114,36 @@ checks-met v s f =
       functions-none = functions .0;
       functions-high = functions .1;
       reminder-on = λ on.
-        let e = eq-eqb _ _ on in
-        let x = ranged-on (reminds (s .functions)) e (t .1 .0) in
-        let y = ranged-on (reminds (s .functions)) e (t .1 .1 .0) in
-        record { x-low = x .0; x-high = x .1; y-low = y .0; y-high = y .1 };
+          let e = eq-eqb _ _ on in
+          let x = ranged-on (reminds (s .functions)) e (t .1 .0) in
+          let y = ranged-on (reminds (s .functions)) e (t .1 .1 .0) in
+          record { x-low = x .0; x-high = x .1; y-low = y .0; y-high = y .1 };
       reminder-off = λ off.
-        let e : reminds (s .functions) ≡ false = ne-eqb (s .functions / 4 % 2) 1 (λ on. omega arith) in
-        (ranged-off 2 6000 (reminds (s .functions)) e (t .1 .0), ranged-off 1 5000 (reminds (s .functions)) e (t .1 .1 .0));
+          let e : reminds (s .functions) ≡ false = ne-eqb (s .functions / 4 % 2) 1 (λ on. omega arith) in
+          (ranged-off 2 6000 (reminds (s .functions)) e (t .1 .0), ranged-off 1 5000 (reminds (s .functions)) e (t .1 .1 .0));
     }
 
 pub met-checks : (v : ℕ) (s : Settings) → SettingsMet v s → Fine (checksOf v s)
 met-checks v s m =
     let on : reminds (s .functions) ≡ true → ReminderMet (s .x) (s .y) = λ e. m .reminder-on (eqb-true _ _ e) in
-    let off : reminds (s .functions) ≡ false → (s .x ≡ 0) × (s .y ≡ 0) = λ e. let n = eqb-false (s .functions / 4 % 2) 1 e in m .reminder-off (omega arith) in
-    (met-within (m .vmax-low) (m .vmax-high), (met-within (m .tick-low) (m .tick-high), (met-within (m .bts-low) (m .bts-high),
-    row-in (s .clear) (m .clear) (row-in (s .announcement) (m .announcement) (row-in (s .preannouncement) (m .preannouncement)
-    (row-in (s .caution) (m .caution) (row-in (s .«before_stop») (m .before-stop) (row-in (s .crossing) (m .crossing)
-    (row-in (s .limit) (m .limit) (row-in (s .start) (m .start)
-    (functions-in v (s .functions) (m .functions-none) (m .functions-high),
-    (ranged-in (reminds (s .functions)) (λ e. (on e .x-low, on e .x-high)) (λ e. off e .0),
-    (ranged-in (reminds (s .functions)) (λ e. (on e .y-low, on e .y-high)) (λ e. off e .1), tt)))))))))))))
+    let off : reminds (s .functions) ≡ false → (s .x ≡ 0) × (s .y ≡ 0) = λ e. let n = eqb-false (s .functions / 4 % 2) 1 e in m .reminder-off (omega arith) in (
+      met-within (m .vmax-low) (m .vmax-high),
+      (
+        met-within (m .tick-low) (m .tick-high),
+        (
+          met-within (m .bts-low) (m .bts-high),
+          row-in (s .clear) (m .clear) (row-in (s .announcement) (m .announcement) (row-in (s .preannouncement) (m .preannouncement)
+              (row-in (s .caution) (m .caution) (row-in (s .«before_stop») (m .before-stop) (row-in (s .crossing) (m .crossing)
+              (row-in (s .limit) (m .limit) (row-in (s .start) (m .start) (
+                functions-in v (s .functions) (m .functions-none) (m .functions-high),
+                (
+                  ranged-in (reminds (s .functions)) (λ e. (on e .x-low, on e .x-high)) (λ e. off e .0),
+                  (ranged-in (reminds (s .functions)) (λ e. (on e .y-low, on e .y-high)) (λ e. off e .1), tt),
+                ),
+              )))))))),
+        ),
+      ),
+    )
 
 -- no fault is found exactly when the settings are in range
 pub fault-met : (v : ℕ) (s : Settings) → faultOf v s ≡ 0 → SettingsMet v s

@@ -3,3 +3,7 @@ pub mod Accepted
 pub mod Places
 pub mod Determined
 pub mod RoundTrip
+pub mod Same
+pub mod Silence
+pub mod Versions
+pub mod Examples

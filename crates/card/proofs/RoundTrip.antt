@@ -41,12 +41,22 @@ module _ (s : Settings) (rest : List ℕ) where
   -- an area that has a version's header and room reads as its settings, where they are in range
   reads : (v h : ℕ) (area : List ℕ) → 1 ≤ v → v ≤ h → h ≤ 2 → byte area 2 ≡ v → word area 0 ≡ lengthOf v → 39 ≤ lengthOf v → lengthOf v ≤ length area → settingsOf area ≡ s → SettingsMet v s → readCard area h ≡ given s
   reads v h area low known high version stated long fits same m =
-      checks-read area h
-      (met-within (omega arith) high, (le-leb 3 (length area) (omega arith), (rw (version, ne-eqb v 0 (λ e. omega arith)), (rw version (le-leb v h known),
-      (rw version (eq-eqb _ _ stated), (rw version (le-leb _ _ fits), (rw (same, version) (eq-eqb _ _ (met-fault v s m)), tt))))))) ∙ ap given same
+      checks-read area h (
+        met-within (omega arith) high,
+        (
+          le-leb 3 (length area) (omega arith),
+          (
+            rw (version, ne-eqb v 0 (λ e. omega arith)),
+            (
+              rw version (le-leb v h known),
+              (rw version (eq-eqb _ _ stated), (rw version (le-leb _ _ fits), (rw (same, version) (eq-eqb _ _ (met-fault v s m)), tt))),
+            ),
+          ),
+        ),
+      ) ∙ ap given same
 
   -- where bit 2 is off, X and Y are 0
-  off : (v : ℕ) → SettingsMet v s → reminds (s .functions) ≡ false → (s .x ≡ 0) × (s .y ≡ 0)
+  pub off : (v : ℕ) → SettingsMet v s → reminds (s .functions) ≡ false → (s .x ≡ 0) × (s .y ≡ 0)
   off v m e = ⊎-elim (λ on. let z : _≡_ {A = ℕ} 0 1 = cc (on .0, e) in absurd (omega arith)) (λ no. m .reminder-off (no .1)) (bit-cases (s .functions))
 
   settings-back-1 : SettingsMet 1 s → settingsOf (recordOf 1 s ++ rest) ≡ s

@@ -4,3 +4,4 @@ pub mod Reading
 pub mod Writing
 pub mod Laws
 pub mod Plain
+pub mod Lines
