@@ -57,10 +57,3 @@ check-determined v s a b pa pb = checked-one a b (pa ∙ sym pb)
 -- the writer's answer, and every byte of the buffer after it
 pub write-determined : (v : ℕ) (s : Settings) (buffer after after′ : List ℕ) (a b : Written) → writtenOf a ≡ writeCard v s (length buffer) → after ≡ leaves (writtenOf a) v s buffer → writtenOf b ≡ writeCard v s (length buffer) → after′ ≡ leaves (writtenOf b) v s buffer → (a ≡ b) × (after ≡ after′)
 write-determined v s buffer after after′ a b pa la pb lb = (written-one a b (pa ∙ sym pb), rw (la, lb, pa, pb))
-
--- "A refusal .. leaves buffers .. unchanged": where the writer refuses, the buffer holds what it held
-pub refused-leaves : (v : ℕ) (s : Settings) (buffer : List ℕ) (n : ℕ) → writeCard v s (length buffer) ≡ refused n → leaves (writeCard v s (length buffer)) v s buffer ≡ buffer
-refused-leaves v s buffer n h = rw h
-
-pub refusedAt-leaves : (v : ℕ) (s : Settings) (buffer : List ℕ) (n p : ℕ) → writeCard v s (length buffer) ≡ refusedAt n p → leaves (writeCard v s (length buffer)) v s buffer ≡ buffer
-refusedAt-leaves v s buffer n p h = rw h

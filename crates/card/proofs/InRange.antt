@@ -3,7 +3,6 @@ use Prim.Native.Nat.{ℕ, _/_, _%_, _≤_}
 use native.Mathlib.Omega.{arith}
 use mathlib.Core.Path.{_≡_, refl, sym, _∙_}
 use mathlib.Core.Bool.{Bool, true, false, _&&_}
-use mathlib.Core.Logic.{_⊎_, inl, inr}
 use lib.Dec.{T, leb, eqb}
 use borrow.Author.Tests.{le-leb, leb-true, eqb-true, eqb-false, eq-eqb, ne-eqb}
 use Rattle.leaf.specs.Choosing.{pick}
@@ -58,14 +57,6 @@ functions-in v f none high = cases (eqb v 1) refl
     cases : (t : Bool) → eqb v 1 ≡ t → leb f (pick t 0 15) ≡ true
     cases true e = rw (none (eqb-true v 1 e))
     cases false e = le-leb f 15 high
-
--- the bit is on or off
-pub bit-cases : (f : ℕ) → ((reminds f ≡ true) × (f / 4 % 2 ≡ 1)) ⊎ ((reminds f ≡ false) × (f / 4 % 2 ≡ 0))
-bit-cases f = cases (reminds f) refl
-  where
-    cases : (t : Bool) → reminds f ≡ t → ((reminds f ≡ true) × (f / 4 % 2 ≡ 1)) ⊎ ((reminds f ≡ false) × (f / 4 % 2 ≡ 0))
-    cases true e = inl (e, eqb-true _ _ e)
-    cases false e = let n = eqb-false (f / 4 % 2) 1 e in inr (e, omega arith)
 
 ranged-on : {lo hi x : ℕ} (on : Bool) → on ≡ true → rangedIf on lo hi x ≡ true → (lo ≤ x) × (x ≤ hi)
 ranged-on true e h = within-met h
@@ -122,6 +113,10 @@ checks-met v s f =
           let e : reminds (s .functions) ≡ false = ne-eqb (s .functions / 4 % 2) 1 (λ on. omega arith) in
           (ranged-off 2 6000 (reminds (s .functions)) e (t .1 .0), ranged-off 1 5000 (reminds (s .functions)) e (t .1 .1 .0));
     }
+
+-- where bit 2 is off, X and Y are 0
+pub reminder-zero : (v : ℕ) (s : Settings) → SettingsMet v s → reminds (s .functions) ≡ false → (s .x ≡ 0) × (s .y ≡ 0)
+reminder-zero v s m e = let n = eqb-false (s .functions / 4 % 2) 1 e in m .reminder-off (omega arith)
 
 pub met-checks : (v : ℕ) (s : Settings) → SettingsMet v s → Fine (checksOf v s)
 met-checks v s m =

@@ -20,7 +20,7 @@ use Rattle.card.specs.declared.Settings.{Settings}
 use Rattle.card.specs.declared.Reading.{Reading}
 use Rattle.card.specs.declared.Reading.the-variants.{Read, Refused}
 use Rattle.card.specs.declared.Written.{Written}
-use Rattle.card.proofs.InRange.{met-within, met-fault, bit-cases}
+use Rattle.card.proofs.InRange.{met-within, met-fault, reminder-zero}
 use Rattle.card.proofs.Accepted.{version-cases, checks-read, written-when}
 use Rattle.card.proofs.Determined.{paper-one}
 
@@ -55,10 +55,6 @@ module _ (s : Settings) (rest : List ℕ) where
         ),
       ) ∙ ap given same
 
-  -- where bit 2 is off, X and Y are 0
-  pub off : (v : ℕ) → SettingsMet v s → reminds (s .functions) ≡ false → (s .x ≡ 0) × (s .y ≡ 0)
-  off v m e = ⊎-elim (λ on. let z : _≡_ {A = ℕ} 0 1 = cc (on .0, e) in absurd (omega arith)) (λ no. m .reminder-off (no .1)) (bit-cases (s .functions))
-
   settings-back-1 : SettingsMet 1 s → settingsOf (recordOf 1 s ++ rest) ≡ s
   unfolding settingsFrom recordOf bytesOf byte word rowAt functionsFrom
   settings-back-1 m =
@@ -69,8 +65,8 @@ module _ (s : Settings) (rest : List ℕ) where
   settings-back-2 : SettingsMet 2 s → settingsOf (recordOf 2 s ++ rest) ≡ s
   unfolding settingsFrom recordOf bytesOf byte word rowAt functionsFrom
   settings-back-2 m =
-      rebuilt s _ _ _ _ (word-back (s .tick)) refl (kept-back (reminds (s .functions)) (s .x) (λ e. off 2 m e .0))
-      (kept-back (reminds (s .functions)) (s .y) (λ e. off 2 m e .1))
+      rebuilt s _ _ _ _ (word-back (s .tick)) refl (kept-back (reminds (s .functions)) (s .x) (λ e. reminder-zero 2 s m e .0))
+      (kept-back (reminds (s .functions)) (s .y) (λ e. reminder-zero 2 s m e .1))
 
   -- the record of version 1, or 2, with anything behind it, reads as its settings
   record-reads-1 : (h : ℕ) → 1 ≤ h → h ≤ 2 → SettingsMet 1 s → readCard (recordOf 1 s ++ rest) h ≡ given s

@@ -1,12 +1,11 @@
 -- Silent bytes: two areas, each at least as long as the record, with the same speaking bytes read alike, whatever else they hold.
--- The writer zeroes the silent bytes of its record.
 use Prim.Native.Nat.{ℕ, _+_, _≤_, _<_}
 use native.Mathlib.Omega.{arith}
 use mathlib.Core.Path.{_≡_, refl, sym, ap, _∙_}
 use mathlib.Core.Bool.{Bool, true, false, _&&_, _||_, not}
-use mathlib.Core.List.{List, [], _∷_}
+use mathlib.Core.List.{List}
 use lib.Dec.{leb, eqb, ltb, lit≤, lit<}
-use lib.ListN.{length, drop}
+use lib.ListN.{length}
 use borrow.Author.Tests.{le-leb, lt-leb, lt-ltb, eqb-true}
 use Rattle.leaf.specs.Choosing.{pick}
 use Rattle.leaf.specs.Bytes.{byte, word}
@@ -14,12 +13,8 @@ use Rattle.leaf.specs.Checks.{firstBad}
 use Rattle.card.specs.Card.{FIRST, lengthOf, reminds, speaks}
 use Rattle.card.specs.Ranges.{faultOf}
 use Rattle.card.specs.Reading.{functionsFrom, settingsFrom, settingsOf, cardChecks, readCard, paperOf}
-use Rattle.card.specs.Writing.{bytesOf, recordOf}
-use Rattle.card.specs.Plain.{SettingsMet}
-use Rattle.card.specs.declared.Settings.{Settings}
 use Rattle.card.specs.declared.Reading.{Reading}
 use Rattle.card.proofs.Determined.{paper-one}
-use Rattle.card.proofs.RoundTrip.{off}
 use Rattle.card.proofs.Same.{Same, same-word, same-part, same-settings}
 
 -- ---- which places speak
@@ -93,10 +88,3 @@ module _ (a b : List ℕ) (h : ℕ) (fits-a : lengthOf (byte a 2) ≤ length a) 
   -- and of any two results of the reader
   pub silence-results : (r t : Reading) → paperOf r ≡ readCard a h → paperOf t ≡ readCard b h → r ≡ t
   silence-results r t pr pt = paper-one r t (pr ∙ silence ∙ sym pt)
-
--- ---- the writer
-
--- with bit 2 off, bytes 40 to 43 of a version 2 record are 0
-pub silent-zero : (s : Settings) → SettingsMet 2 s → reminds (s .functions) ≡ false → drop 40 (recordOf 2 s) ≡ 0 ∷ 0 ∷ 0 ∷ 0 ∷ []
-unfolding recordOf bytesOf
-silent-zero s m e = let z = off s [] 2 m e in rw (z .0, z .1)

@@ -56,6 +56,9 @@ lengths : (b : Bool) → pick b 39 44 ≤ 44
 lengths true = lit≤ tt
 lengths false = lit≤ tt
 
+pub lengthOf-le : (v : ℕ) → lengthOf v ≤ 44
+lengthOf-le v = lengths (eqb v 1)
+
 pub length-bytesOf : (v : ℕ) (s : Settings) → length (bytesOf v s) ≡ 44
 unfolding bytesOf
 length-bytesOf v s = refl
@@ -70,7 +73,7 @@ pub put-whole : (v : ℕ) (s : Settings) (buffer : List ℕ) → writeCard v s (
 unfolding recordOf
 put-whole v s buffer h =
     let fits : lengthOf v ≤ length buffer = leb-true _ _ (done-checks v s (length buffer) h .1 .1 .0) in
-    over-whole (lengthOf v) (bytesOf v s) buffer (rw length-bytesOf (lengths (eqb v 1))) fits
+    over-whole (lengthOf v) (bytesOf v s) buffer (rw length-bytesOf (lengthOf-le v)) fits
 
 -- "A refusal .. leaves buffers .. unchanged."
 pub refusal-leaves : (why : Refusal) (v : ℕ) (s : Settings) (buffer : List ℕ) → leaves (refusalOf why) v s buffer ≡ buffer
