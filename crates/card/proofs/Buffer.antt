@@ -50,4 +50,4 @@ length-kept v s buffer = cases (writeCard v s (length buffer)) (λ h. leb-true _
 -- the writer "zeroes silent bytes": with bit 2 off, bytes 40 to 43 of a version 2 record are 0
 pub silent-zero : (s : Settings) → SettingsMet 2 s → reminds (s .functions) ≡ false → drop 40 (recordOf 2 s) ≡ 0 ∷ 0 ∷ 0 ∷ 0 ∷ []
 unfolding recordOf bytesOf
-silent-zero s m e = let z = reminder-zero 2 s m e in rw (z .0, z .1)
+silent-zero s m e = let z = reminder-zero m e in rw (z .0, z .1)

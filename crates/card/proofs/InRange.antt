@@ -9,8 +9,8 @@ use Rattle.leaf.specs.Choosing.{pick}
 use Rattle.leaf.specs.Numbers.{within}
 use Rattle.leaf.specs.Checks.{Fine, firstBad, none-bad, fine-none}
 use Rattle.card.specs.Card.{FIRST, reminds}
-use Rattle.card.specs.Ranges.{functionsTop, rangedIf, checksOf, settingsFault, faultOf}
-use Rattle.card.specs.Plain.{RowIn, RowMet, ReminderMet, SettingsMet}
+use Rattle.card.specs.Ranges.{functionsTop, rangedIf, settingsChecks, checksOf, settingsFault, faultOf}
+use Rattle.card.specs.Plain.{RowIn, RowMet, ReminderMet, RangesMet, SettingsMet}
 use Rattle.card.specs.declared.Row.{Row}
 use Rattle.card.specs.declared.Settings.{Settings}
 
@@ -72,8 +72,9 @@ ranged-in {x = x} false ranged zero = eq-eqb x 0 (zero refl)
 
 -- ---- the settings
 
-pub checks-met : (v : ℕ) (s : Settings) → Fine (checksOf v s) → SettingsMet v s
-checks-met v s f =
+-- wherever the card's first setting stands, and whatever the range of vmax
+pub checks-met : (first lowest highest v : ℕ) (s : Settings) → Fine (settingsChecks first lowest highest v s) → RangesMet lowest highest v s
+checks-met first lowest highest v s f =
     let vmax = within-met (f .0) in
     let tick = within-met (f .1 .0) in
     let bts = within-met (f .1 .1 .0) in
@@ -115,11 +116,11 @@ checks-met v s f =
     }
 
 -- where bit 2 is off, X and Y are 0
-pub reminder-zero : (v : ℕ) (s : Settings) → SettingsMet v s → reminds (s .functions) ≡ false → (s .x ≡ 0) × (s .y ≡ 0)
-reminder-zero v s m e = let n = eqb-false (s .functions / 4 % 2) 1 e in m .reminder-off (omega arith)
+pub reminder-zero : {lowest highest v : ℕ} {s : Settings} → RangesMet lowest highest v s → reminds (s .functions) ≡ false → (s .x ≡ 0) × (s .y ≡ 0)
+reminder-zero {s = s} m e = let n = eqb-false (s .functions / 4 % 2) 1 e in m .reminder-off (omega arith)
 
-pub met-checks : (v : ℕ) (s : Settings) → SettingsMet v s → Fine (checksOf v s)
-met-checks v s m =
+pub met-checks : (first lowest highest v : ℕ) (s : Settings) → RangesMet lowest highest v s → Fine (settingsChecks first lowest highest v s)
+met-checks first lowest highest v s m =
     let on : reminds (s .functions) ≡ true → ReminderMet (s .x) (s .y) = λ e. m .reminder-on (eqb-true _ _ e) in
     let off : reminds (s .functions) ≡ false → (s .x ≡ 0) × (s .y ≡ 0) = λ e. let n = eqb-false (s .functions / 4 % 2) 1 e in m .reminder-off (omega arith) in (
       met-within (m .vmax-low) (m .vmax-high),
@@ -143,8 +144,8 @@ met-checks v s m =
 -- no fault is found exactly when the settings are in range
 pub fault-met : (v : ℕ) (s : Settings) → faultOf v s ≡ 0 → SettingsMet v s
 unfolding faultOf settingsFault
-fault-met v s h = checks-met v s (none-bad 0 (checksOf v s) tt h .1)
+fault-met v s h = checks-met FIRST 80 200 v s (none-bad 0 (checksOf v s) tt h .1)
 
 pub met-fault : (v : ℕ) (s : Settings) → SettingsMet v s → faultOf v s ≡ 0
 unfolding faultOf settingsFault
-met-fault v s m = fine-none (checksOf v s) (met-checks v s m)
+met-fault v s m = fine-none (checksOf v s) (met-checks FIRST 80 200 v s m)

@@ -65,8 +65,8 @@ module _ (s : Settings) (rest : List ℕ) where
   settings-back-2 : SettingsMet 2 s → settingsOf (recordOf 2 s ++ rest) ≡ s
   unfolding settingsFrom recordOf bytesOf byte word rowAt functionsFrom
   settings-back-2 m =
-      rebuilt s _ _ _ _ (word-back (s .tick)) refl (kept-back (reminds (s .functions)) (s .x) (λ e. reminder-zero 2 s m e .0))
-      (kept-back (reminds (s .functions)) (s .y) (λ e. reminder-zero 2 s m e .1))
+      rebuilt s _ _ _ _ (word-back (s .tick)) refl (kept-back (reminds (s .functions)) (s .x) (λ e. reminder-zero m e .0))
+      (kept-back (reminds (s .functions)) (s .y) (λ e. reminder-zero m e .1))
 
   -- the record of version 1, or 2, with anything behind it, reads as its settings
   record-reads-1 : (h : ℕ) → 1 ≤ h → h ≤ 2 → SettingsMet 1 s → readCard (recordOf 1 s ++ rest) h ≡ given s

@@ -30,10 +30,10 @@ pub record ReminderMet (x y : ℕ) : Type 0 where
   pub y-low : 1 ≤ y
   pub y-high : y ≤ 5000
 
--- settings in range beside a version
-pub record SettingsMet (version : ℕ) (s : Settings) : Type 0 where
-  pub vmax-low : 80 ≤ s .vmax
-  pub vmax-high : s .vmax ≤ 200
+-- settings in range beside a version, on a card whose vmax is lowest to highest
+pub record RangesMet (lowest highest version : ℕ) (s : Settings) : Type 0 where
+  pub vmax-low : lowest ≤ s .vmax
+  pub vmax-high : s .vmax ≤ highest
   pub tick-low : 10 ≤ s .tick
   pub tick-high : s .tick ≤ 1000
   pub bts-low : 1 ≤ s .bts
@@ -50,6 +50,10 @@ pub record SettingsMet (version : ℕ) (s : Settings) : Type 0 where
   pub functions-high : s .functions ≤ 15
   pub reminder-on : s .functions / 4 % 2 ≡ 1 → ReminderMet (s .x) (s .y)
   pub reminder-off : s .functions / 4 % 2 ≡ 0 → (s .x ≡ 0) × (s .y ≡ 0)
+
+-- "vmax 80..200 km/h"
+abbrev pub SettingsMet : ℕ → Settings → Type 0
+SettingsMet version s = RangesMet 80 200 version s
 
 -- an area that a reader whose highest version is `highest` accepts
 pub record CardMet (area : List ℕ) (highest : ℕ) : Type 0 where

@@ -67,7 +67,7 @@ checksOf version s = settingsChecks FIRST 80 200 version s
 unfoldable pub faultOf : ℕ → Settings → ℕ
 faultOf version s = settingsFault FIRST 80 200 version s
 
--- "5 | setting out of range, with place of the first"
+-- "5 | setting out of range, with place of the first"; "opening takes no version": it asks as beside version 2
 abbrev pub inRange : Answer Unit
 inRange = given tt
 

@@ -21,7 +21,7 @@ use Rattle.card.specs.declared.Written.the-variants.{Done, NotWritten}
 abbrev pub rowBytes : Row → List ℕ
 rowBytes row = row .initial ∷ row .last ∷ row .delay ∷ row .drop ∷ []
 
--- the settings in their order, from vmax to Y; "Big-endian"
+-- the settings in their order, from vmax to Y; "Big-endian". With bit 2 off X and Y are 0, so that the writer "zeroes silent bytes"
 abbrev pub settingsBytes : Settings → List ℕ
 settingsBytes s =
     (s .vmax ∷ []) ++ pair (s .tick) ++ (s .bts ∷ [])

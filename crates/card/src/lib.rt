@@ -120,12 +120,13 @@ fn read_refusal(area: &[u8], highest: u8, fine: bool) -> u8
     let version = byte_at(area, 2);
     let length = length_of(version);
     let stated = word_at(area, 0);
+    let fits = length as usize <= area.len();
     let n = or_fault(0, 6, known);
     let n = or_fault(n, 1, 3 <= area.len());
     let n = or_fault(n, 2, version != 0);
     let n = or_fault(n, 3, version <= highest);
     let n = or_fault(n, 4, stated == length);
-    let n = or_fault(n, 1, length as usize <= area.len());
+    let n = or_fault(n, 1, fits);
     or_fault(n, 5, fine)
 }
 
@@ -162,10 +163,10 @@ fn write_refusal(version: u8, fine: bool, room: usize) -> u8
     ensures { λ n. ⌜ n ≡ firstBad 0 (writeChecks version fine room) ⌝ }
 {
     let known = is_known(version);
-    let length = length_of(version);
+    let fits = length_of(version) as usize <= room;
     let n = or_fault(0, 2, known);
     let n = or_fault(n, 5, fine);
-    or_fault(n, 13, length as usize <= room)
+    or_fault(n, 13, fits)
 }
 
 fn written_by(number: u8, place: u8) -> Written
