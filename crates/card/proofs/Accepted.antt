@@ -2,18 +2,18 @@
 -- they hold of the version, the fields and the room.
 use Prim.Native.Nat.{ℕ, _/_, _%_, _≤_}
 use native.Mathlib.Omega.{arith}
-use mathlib.Core.Path.{_≡_, refl, sym, _∙_}
+use mathlib.Core.Path.{_≡_, refl, sym}
 use mathlib.Core.Bool.{Bool, true, false, not}
 use mathlib.Core.List.{List}
 use mathlib.Core.Logic.{_⊎_, ⊎-elim, inl, inr}
-use lib.Dec.{T, leb, eqb, lit≤}
+use lib.Dec.{eqb, lit≤}
 use lib.ListN.{length}
 use borrow.Author.Tests.{le-leb, leb-true, eqb-true, eqb-false, eq-eqb, ne-eqb, not-true}
 use Rattle.leaf.specs.Choosing.{pick}
 use Rattle.leaf.specs.Bytes.{byte, word}
-use Rattle.leaf.specs.Checks.{Fine, firstBad, none-bad, fine-none}
-use Rattle.leaf.specs.Answers.{Answer, given, refusedAt}
-use Rattle.card.specs.Card.{FIRST, lengthOf, known, reminds, rowAt}
+use Rattle.leaf.specs.Checks.{Fine, none-bad, fine-none}
+use Rattle.leaf.specs.Answers.{given, refusedAt}
+use Rattle.card.specs.Card.{FIRST, lengthOf, rowAt}
 use Rattle.card.specs.Ranges.{faultOf, checkSettings, inRange}
 use Rattle.card.specs.Reading.{functionsFrom, settingsFrom, settingsOf, cardChecks, answerBy, readCard}
 use Rattle.card.specs.Writing.{recordChecks, writeCard, written}
@@ -64,7 +64,8 @@ functions-2 : (v : ℕ) (area : List ℕ) → v ≡ 2 → functionsFrom FIRST v 
 unfolding functionsFrom
 functions-2 v area e = rw e
 
-card-reminder : (v : ℕ) (area : List ℕ) → SettingsMet v (settingsFrom FIRST v area) → v ≡ 2 → byte area 39 / 4 % 2 ≡ 1 → ReminderMet (word area 40) (word area 42)
+card-reminder : (v : ℕ) (area : List ℕ) → SettingsMet v (settingsFrom FIRST v area) → v ≡ 2 → byte area 39 / 4 % 2 ≡ 1
+    → ReminderMet (word area 40) (word area 42)
 unfolding settingsFrom
 card-reminder v area m two on = rw (functions-2 v area two, eq-eqb _ _ on) at (m .reminder-on (rw (functions-2 v area two) on))
 

@@ -1,11 +1,10 @@
 -- What the writer leaves in the buffer lent to it.
-use Prim.Native.Nat.{ℕ, _+_, _-_, _≤_}
+use Prim.Native.Nat.{ℕ, _-_, _≤_}
 use native.Mathlib.Omega.{arith}
 use mathlib.Core.Path.{_≡_, refl}
-use mathlib.Core.Bool.{Bool, true, false}
-use mathlib.Core.List.{List, [], _∷_, _++_}
-use lib.Dec.{eqb}
-use lib.ListN.{length, take, drop, length-append, length-drop}
+use mathlib.Core.Bool.{false}
+use mathlib.Core.List.{List, [], _∷_}
+use lib.ListN.{length, drop, length-append, length-drop}
 use lib.Seq.{drop-at, length-take-le}
 use borrow.Author.Tests.{leb-true}
 use Rattle.leaf.specs.Answers.{Answer, given, refused, refusedAt}
@@ -21,7 +20,8 @@ unfolding recordOf
 length-recordOf v s = length-take-le (lengthOf v) (bytesOf v s) (rw length-bytesOf (lengthOf-le v))
 
 -- "A refusal .. leaves buffers .. unchanged": where it is not done, the buffer holds what it held
-pub refused-leaves : (v : ℕ) (s : Settings) (buffer : List ℕ) → (writeCard v s (length buffer) ≡ given written → ⊥) → leaves (writeCard v s (length buffer)) v s buffer ≡ buffer
+pub refused-leaves : (v : ℕ) (s : Settings) (buffer : List ℕ) → (writeCard v s (length buffer) ≡ given written → ⊥)
+    → leaves (writeCard v s (length buffer)) v s buffer ≡ buffer
 refused-leaves v s buffer = cases (writeCard v s (length buffer))
   where
     cases : (a : Answer Unit) → (a ≡ given written → ⊥) → leaves a v s buffer ≡ buffer
@@ -30,7 +30,8 @@ refused-leaves v s buffer = cases (writeCard v s (length buffer))
     cases (refusedAt n p) h = refl
 
 -- it "touches nothing beyond the record"
-pub beyond-untouched : (v : ℕ) (s : Settings) (buffer : List ℕ) → drop (lengthOf v) (leaves (writeCard v s (length buffer)) v s buffer) ≡ drop (lengthOf v) buffer
+pub beyond-untouched : (v : ℕ) (s : Settings) (buffer : List ℕ)
+    → drop (lengthOf v) (leaves (writeCard v s (length buffer)) v s buffer) ≡ drop (lengthOf v) buffer
 beyond-untouched v s buffer = cases (writeCard v s (length buffer))
   where
     cases : (a : Answer Unit) → drop (lengthOf v) (leaves a v s buffer) ≡ drop (lengthOf v) buffer

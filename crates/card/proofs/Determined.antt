@@ -1,9 +1,8 @@
 -- Each promise determines its result: any two results that it allows are equal, and so is what the buffer holds.
 use Prim.Native.Nat.{ℕ}
-use mathlib.Core.Path.{_≡_, refl, sym, ap, _∙_}
+use mathlib.Core.Path.{_≡_, refl, sym, _∙_}
 use mathlib.Core.List.{List}
 use lib.ListN.{length}
-use Rattle.leaf.specs.Answers.{Answer, given, refused, refusedAt}
 use Rattle.leaf.specs.declared.Refusal.the-variants.{Number, At}
 use Rattle.card.specs.Ranges.{checkedOf, checkSettings}
 use Rattle.card.specs.Reading.{paperOf, readCard}
@@ -55,5 +54,7 @@ pub check-determined : (v : ℕ) (s : Settings) (a b : Checked) → checkedOf a 
 check-determined v s a b pa pb = checked-one a b (pa ∙ sym pb)
 
 -- the writer's answer, and every byte of the buffer after it
-pub write-determined : (v : ℕ) (s : Settings) (buffer after after′ : List ℕ) (a b : Written) → writtenOf a ≡ writeCard v s (length buffer) → after ≡ leaves (writtenOf a) v s buffer → writtenOf b ≡ writeCard v s (length buffer) → after′ ≡ leaves (writtenOf b) v s buffer → (a ≡ b) × (after ≡ after′)
+pub write-determined : (v : ℕ) (s : Settings) (buffer after after′ : List ℕ) (a b : Written) → writtenOf a ≡ writeCard v s (length buffer)
+    → after ≡ leaves (writtenOf a) v s buffer → writtenOf b ≡ writeCard v s (length buffer) → after′ ≡ leaves (writtenOf b) v s buffer
+    → (a ≡ b) × (after ≡ after′)
 write-determined v s buffer after after′ a b pa la pb lb = (written-one a b (pa ∙ sym pb), rw (la, lb, pa, pb))

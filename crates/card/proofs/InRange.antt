@@ -1,16 +1,16 @@
 -- Settings pass the list of checks exactly when they meet the ranges in plain facts.
 use Prim.Native.Nat.{ℕ, _/_, _%_, _≤_}
 use native.Mathlib.Omega.{arith}
-use mathlib.Core.Path.{_≡_, refl, sym, _∙_}
+use mathlib.Core.Path.{_≡_, refl}
 use mathlib.Core.Bool.{Bool, true, false, _&&_}
-use lib.Dec.{T, leb, eqb}
+use lib.Dec.{leb, eqb}
 use borrow.Author.Tests.{le-leb, leb-true, eqb-true, eqb-false, eq-eqb, ne-eqb}
 use Rattle.leaf.specs.Choosing.{pick}
 use Rattle.leaf.specs.Numbers.{within}
-use Rattle.leaf.specs.Checks.{Fine, firstBad, none-bad, fine-none}
+use Rattle.leaf.specs.Checks.{Fine, none-bad, fine-none}
 use Rattle.card.specs.Card.{FIRST, reminds}
 use Rattle.card.specs.Ranges.{functionsTop, rangedIf, settingsChecks, checksOf, settingsFault, faultOf}
-use Rattle.card.specs.Plain.{RowIn, RowMet, ReminderMet, RangesMet, SettingsMet}
+use Rattle.card.specs.Plain.{RowIn, ReminderMet, RangesMet, SettingsMet}
 use Rattle.card.specs.declared.Row.{Row}
 use Rattle.card.specs.declared.Settings.{Settings}
 

@@ -1,15 +1,15 @@
 -- A number or place that is given is that of a check that fails, and every check before it holds: nothing is invented.
 use Prim.Native.Nat.{ℕ}
 use native.Mathlib.Omega.{arith}
-use mathlib.Core.Path.{_≡_, refl, sym, _∙_}
+use mathlib.Core.Path.{_≡_, refl, _∙_}
 use mathlib.Core.Bool.{Bool, true, false, _&&_}
 use mathlib.Core.List.{List, [], _∷_, _++_}
 use lib.Dec.{T, eqb}
-use borrow.Author.Tests.{eq-eqb, eqb-true, eqb-false}
+use borrow.Author.Tests.{eq-eqb, eqb-false}
 use Rattle.leaf.specs.Choosing.{pick}
 use Rattle.leaf.specs.Bytes.{byte}
-use Rattle.leaf.specs.Checks.{Check, Fine, firstBad, numbered, FirstFault, first-fault}
-use Rattle.leaf.specs.Answers.{Answer, given, refused, refusedAt}
+use Rattle.leaf.specs.Checks.{Check, firstBad, numbered, FirstFault, first-fault}
+use Rattle.leaf.specs.Answers.{refused, refusedAt}
 use Rattle.card.specs.Ranges.{checksOf, settingsFault, faultOf, checkSettings, inRange}
 use Rattle.card.specs.Reading.{settingsOf, readChecks, cardChecks, readCard}
 use Rattle.card.specs.Writing.{writeChecks, recordChecks, writeCard}
@@ -23,7 +23,8 @@ numbersOf [] = []
 numbersOf (c ∷ rest) = c .0 ∷ numbersOf rest
 
 -- the places that can be given, lowest first: vmax 3, tick 4, BTS 6, of each row initial, final and drop, functions 39, X 40, Y 42
-pub places : (v : ℕ) (s : Settings) → numbersOf (checksOf v s) ≡ 3 ∷ 4 ∷ 6 ∷ 7 ∷ 8 ∷ 10 ∷ 11 ∷ 12 ∷ 14 ∷ 15 ∷ 16 ∷ 18 ∷ 19 ∷ 20 ∷ 22 ∷ 23 ∷ 24 ∷ 26 ∷ 27 ∷ 28 ∷ 30 ∷ 31 ∷ 32 ∷ 34 ∷ 35 ∷ 36 ∷ 38 ∷ 39 ∷ 40 ∷ 42 ∷ []
+pub places : (v : ℕ) (s : Settings)
+    → numbersOf (checksOf v s) ≡ 3 ∷ 4 ∷ 6 ∷ 7 ∷ 8 ∷ 10 ∷ 11 ∷ 12 ∷ 14 ∷ 15 ∷ 16 ∷ 18 ∷ 19 ∷ 20 ∷ 22 ∷ 23 ∷ 24 ∷ 26 ∷ 27 ∷ 28 ∷ 30 ∷ 31 ∷ 32 ∷ 34 ∷ 35 ∷ 36 ∷ 38 ∷ 39 ∷ 40 ∷ 42 ∷ []
 places v s = refl
 
 -- ---- the settings' check
@@ -59,7 +60,8 @@ never-not n [] after = rw (eq-eqb n n refl)
 never-not n (c ∷ rest) after = rw (never-not n rest after) (and-false (pick (eqb (c .0) n) (c .1) true))
 
 -- a list of checks in which the settings' range is asked after under 5
-at-fault : (checks : Bool → List Check) (f : ℕ) → never 5 (checks true) ≡ true → T (numbered (checks (eqb f 0))) → firstBad 0 (checks (eqb f 0)) ≡ 5 → f ≡ 0 → ⊥
+at-fault : (checks : Bool → List Check) (f : ℕ) → never 5 (checks true) ≡ true → T (numbered (checks (eqb f 0)))
+    → firstBad 0 (checks (eqb f 0)) ≡ 5 → f ≡ 0 → ⊥
 at-fault checks f nv p h none =
     let e : eqb f 0 ≡ true = eq-eqb f 0 none in
     let first = first-fault (checks true) 5 (rw e at p) (rw e at h) (λ five. omega arith) in

@@ -5,20 +5,19 @@ use native.Mathlib.Omega.{arith}
 use mathlib.Core.Path.{_≡_, refl, sym, ap, _∙_}
 use mathlib.Core.Bool.{Bool, true, false}
 use mathlib.Core.Logic.{_⊎_, ⊎-elim}
-use mathlib.Core.List.{List, [], _∷_, _++_}
-use lib.Dec.{leb, eqb, lit≤}
+use mathlib.Core.List.{List, _++_}
+use lib.Dec.{lit≤}
 use lib.ListN.{length, drop}
-use borrow.Author.Tests.{le-leb, eqb-true, eq-eqb, ne-eqb}
+use borrow.Author.Tests.{le-leb, eq-eqb, ne-eqb}
 use Rattle.leaf.specs.Bytes.{byte, word}
-use Rattle.leaf.specs.Answers.{Answer, given}
-use Rattle.card.specs.Card.{FIRST, lengthOf, reminds, rowAt}
-use Rattle.card.specs.Ranges.{faultOf}
+use Rattle.leaf.specs.Answers.{given}
+use Rattle.card.specs.Card.{lengthOf, reminds, rowAt}
 use Rattle.card.specs.Reading.{kept, functionsFrom, settingsFrom, settingsOf, readCard, paperOf}
 use Rattle.card.specs.Writing.{bytesOf, recordOf, writeCard, written, writtenOf, leaves}
 use Rattle.card.specs.Plain.{SettingsMet, WriteMet}
 use Rattle.card.specs.declared.Settings.{Settings}
 use Rattle.card.specs.declared.Reading.{Reading}
-use Rattle.card.specs.declared.Reading.the-variants.{Read, Refused}
+use Rattle.card.specs.declared.Reading.the-variants.{Read}
 use Rattle.card.specs.declared.Written.{Written}
 use Rattle.card.proofs.InRange.{met-within, met-fault, reminder-zero}
 use Rattle.card.proofs.Accepted.{version-cases, checks-read, written-when}
@@ -34,12 +33,14 @@ kept-back true x off = word-back x
 kept-back false x off = sym (off refl)
 
 -- a record's value is its fields: those that a byte or two stand for are equal by a law, and the rest computes
-rebuilt : (s : Settings) (t f x y : ℕ) → t ≡ s .tick → f ≡ s .functions → x ≡ s .x → y ≡ s .y → record { vmax = s .vmax; tick = t; bts = s .bts; clear = s .clear; announcement = s .announcement; preannouncement = s .preannouncement; caution = s .caution; «before_stop» = s .«before_stop»; crossing = s .crossing; limit = s .limit; start = s .start; functions = f; x = x; y = y } ≡ s
+rebuilt : (s : Settings) (t f x y : ℕ) → t ≡ s .tick → f ≡ s .functions → x ≡ s .x → y ≡ s .y
+    → record { vmax = s .vmax; tick = t; bts = s .bts; clear = s .clear; announcement = s .announcement; preannouncement = s .preannouncement; caution = s .caution; «before_stop» = s .«before_stop»; crossing = s .crossing; limit = s .limit; start = s .start; functions = f; x = x; y = y } ≡ s
 rebuilt s t f x y pt pf px py = rw (pt, pf, px, py)
 
 module _ (s : Settings) (rest : List ℕ) where
   -- an area that has a version's header and room reads as its settings, where they are in range
-  reads : (v h : ℕ) (area : List ℕ) → 1 ≤ v → v ≤ h → h ≤ 2 → byte area 2 ≡ v → word area 0 ≡ lengthOf v → 39 ≤ lengthOf v → lengthOf v ≤ length area → settingsOf area ≡ s → SettingsMet v s → readCard area h ≡ given s
+  reads : (v h : ℕ) (area : List ℕ) → 1 ≤ v → v ≤ h → h ≤ 2 → byte area 2 ≡ v → word area 0 ≡ lengthOf v → 39 ≤ lengthOf v
+      → lengthOf v ≤ length area → settingsOf area ≡ s → SettingsMet v s → readCard area h ≡ given s
   reads v h area low known high version stated long fits same m =
       checks-read area h (
         met-within (omega arith) high,
@@ -89,12 +90,15 @@ record-reads v h s rest low known high m =
 
 -- THE ROUND TRIP: settings that are in range beside a version, and have room, are written; and the buffer then reads as these
 -- settings in every reader whose highest version is no lower
-pub round-trip : (v h : ℕ) (s : Settings) (buffer : List ℕ) → WriteMet v s (length buffer) → v ≤ h → h ≤ 2 → (writeCard v s (length buffer) ≡ given written) × (readCard (leaves (writeCard v s (length buffer)) v s buffer) h ≡ given s)
+pub round-trip : (v h : ℕ) (s : Settings) (buffer : List ℕ) → WriteMet v s (length buffer) → v ≤ h → h ≤ 2
+    → (writeCard v s (length buffer) ≡ given written) × (readCard (leaves (writeCard v s (length buffer)) v s buffer) h ≡ given s)
 round-trip v h s buffer m known high =
     let done = written-when v s (length buffer) m in
     (done, rw done (record-reads v h s (drop (lengthOf v) buffer) (m .version-low) known high (m .settings)))
 
 -- the same of the functions' own results: w and what the buffer holds after it meet the writer's promise, r the reader's
-pub round-trip-results : (v h : ℕ) (s : Settings) (before after : List ℕ) (w : Written) (r : Reading) → writtenOf w ≡ writeCard v s (length before) → after ≡ leaves (writtenOf w) v s before → paperOf r ≡ readCard after h → WriteMet v s (length before) → v ≤ h → h ≤ 2 → r ≡ Read s
+pub round-trip-results : (v h : ℕ) (s : Settings) (before after : List ℕ) (w : Written) (r : Reading)
+    → writtenOf w ≡ writeCard v s (length before) → after ≡ leaves (writtenOf w) v s before → paperOf r ≡ readCard after h
+    → WriteMet v s (length before) → v ≤ h → h ≤ 2 → r ≡ Read s
 round-trip-results v h s before after w r pw pa pr m known high =
     paper-one r (Read s) (pr ∙ rw (pa, pw) (round-trip v h s before m known high .1))

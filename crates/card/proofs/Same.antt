@@ -32,7 +32,8 @@ kept-same true x y h = h refl
 kept-same false x y h = refl
 
 -- the same bytes 3 to 38, functions, X and Y: the same settings
-pub same-settings : (v w : ℕ) (a b : List ℕ) → Same a b 3 39 → functionsFrom FIRST v a ≡ functionsFrom FIRST w b → (reminds (functionsFrom FIRST w b) ≡ true → Same a b 40 44) → settingsFrom FIRST v a ≡ settingsFrom FIRST w b
+pub same-settings : (v w : ℕ) (a b : List ℕ) → Same a b 3 39 → functionsFrom FIRST v a ≡ functionsFrom FIRST w b
+    → (reminds (functionsFrom FIRST w b) ≡ true → Same a b 40 44) → settingsFrom FIRST v a ≡ settingsFrom FIRST w b
 unfolding settingsFrom
 same-settings v w a b h f on =
     let row : (at : ℕ) → 3 ≤ at → at + 4 ≤ 39 → rowAt a at ≡ rowAt b at = λ at low high. same-row a b at (same-part a b 3 39 at (at + 4) h low high) in

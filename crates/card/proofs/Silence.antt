@@ -1,18 +1,16 @@
 -- Silent bytes: two areas, each at least as long as the record, with the same speaking bytes read alike, whatever else they hold.
-use Prim.Native.Nat.{ℕ, _+_, _≤_, _<_}
+use Prim.Native.Nat.{ℕ, _≤_, _<_}
 use native.Mathlib.Omega.{arith}
-use mathlib.Core.Path.{_≡_, refl, sym, ap, _∙_}
-use mathlib.Core.Bool.{Bool, true, false, _&&_, _||_, not}
+use mathlib.Core.Path.{_≡_, refl, sym, _∙_}
+use mathlib.Core.Bool.{Bool, true, false, _||_}
 use mathlib.Core.List.{List}
-use lib.Dec.{leb, eqb, ltb, lit≤, lit<}
+use lib.Dec.{eqb, lit≤, lit<}
 use lib.ListN.{length}
-use borrow.Author.Tests.{le-leb, lt-leb, lt-ltb, eqb-true}
+use borrow.Author.Tests.{le-leb, lt-leb, lt-ltb}
 use Rattle.leaf.specs.Choosing.{pick}
-use Rattle.leaf.specs.Bytes.{byte, word}
-use Rattle.leaf.specs.Checks.{firstBad}
+use Rattle.leaf.specs.Bytes.{byte}
 use Rattle.card.specs.Card.{FIRST, lengthOf, reminds, speaks}
-use Rattle.card.specs.Ranges.{faultOf}
-use Rattle.card.specs.Reading.{functionsFrom, settingsFrom, settingsOf, cardChecks, readCard, paperOf}
+use Rattle.card.specs.Reading.{functionsFrom, settingsFrom, readCard, paperOf}
 use Rattle.card.specs.declared.Reading.{Reading}
 use Rattle.card.proofs.Determined.{paper-one}
 use Rattle.card.proofs.Same.{Same, same-word, same-part, same-settings}

@@ -3,17 +3,16 @@
 use Prim.Native.Nat.{ℕ, _≤_, _<_}
 use native.Mathlib.Omega.{arith}
 use mathlib.Core.Path.{_≡_, refl, sym, ap, _∙_}
-use mathlib.Core.Bool.{Bool, true, false}
 use mathlib.Core.List.{List}
-use lib.Dec.{leb, eqb, lit≤}
+use lib.Dec.{eqb, lit≤}
 use lib.ListN.{length}
 use borrow.Author.Tests.{le-leb, lt-leb, ne-eqb, eq-eqb}
 use Rattle.leaf.specs.Bytes.{byte, word}
-use Rattle.leaf.specs.Checks.{orFault, firstBad}
-use Rattle.leaf.specs.Answers.{Answer, given, refused}
-use Rattle.card.specs.Card.{FIRST, lengthOf, known, reminds}
+use Rattle.leaf.specs.Checks.{orFault}
+use Rattle.leaf.specs.Answers.{Answer, refused}
+use Rattle.card.specs.Card.{FIRST, lengthOf, known}
 use Rattle.card.specs.Ranges.{settingsFault, faultOf}
-use Rattle.card.specs.Reading.{functionsFrom, settingsFrom, settingsOf, cardChecks, answerBy, readCard, paperOf}
+use Rattle.card.specs.Reading.{functionsFrom, settingsFrom, settingsOf, answerBy, readCard, paperOf}
 use Rattle.card.specs.declared.Settings.{Settings}
 use Rattle.card.specs.declared.Reading.{Reading}
 use Rattle.card.proofs.Determined.{paper-one}
@@ -37,7 +36,8 @@ knows-1-refuses-2 area long two = above-refused area 1 (lit≤ tt) (lit≤ tt) l
 abbrev settled : ℕ → Settings → Answer Settings
 settled v s = answerBy (orFault 0 5 (eqb (faultOf v s) 0)) (faultOf v s) s
 
-header-passes : (area : List ℕ) (h v : ℕ) → 1 ≤ v → v ≤ h → h ≤ 2 → byte area 2 ≡ v → word area 0 ≡ lengthOf v → 3 ≤ length area → lengthOf v ≤ length area → readCard area h ≡ settled v (settingsFrom FIRST v area)
+header-passes : (area : List ℕ) (h v : ℕ) → 1 ≤ v → v ≤ h → h ≤ 2 → byte area 2 ≡ v → word area 0 ≡ lengthOf v → 3 ≤ length area
+    → lengthOf v ≤ length area → readCard area h ≡ settled v (settingsFrom FIRST v area)
 unfolding readCard orFault
 header-passes area h v low known high version stated long fits =
     let one : 1 ≤ h = omega arith in
@@ -75,6 +75,7 @@ module _ (a b : List ℕ) (one : byte a 2 ≡ 1) (two : byte b 2 ≡ 2) (common 
       ∙ rw (fault-12, same-12) refl
       ∙ sym (header-passes b 2 2 (lit≤ tt) (lit≤ tt) (lit≤ tt) two stated-b (omega arith) fits-b)
 
-  pub versions-alike-results : (h : ℕ) → 1 ≤ h → h ≤ 2 → word a 0 ≡ 39 → 39 ≤ length a → word b 0 ≡ 44 → 44 ≤ length b → (r t : Reading) → paperOf r ≡ readCard a h → paperOf t ≡ readCard b 2 → r ≡ t
+  pub versions-alike-results : (h : ℕ) → 1 ≤ h → h ≤ 2 → word a 0 ≡ 39 → 39 ≤ length a → word b 0 ≡ 44 → 44 ≤ length b → (r t : Reading)
+      → paperOf r ≡ readCard a h → paperOf t ≡ readCard b 2 → r ≡ t
   versions-alike-results h low high stated-a fits-a stated-b fits-b r t pr pt =
       paper-one r t (pr ∙ versions-alike h low high stated-a fits-a stated-b fits-b ∙ sym pt)

@@ -1,16 +1,16 @@
 -- Laws of the card's definitions, for this crate's proofs and for others'.
 use Prim.Native.Nat.{ℕ, _≤_}
-use mathlib.Core.Path.{_≡_, refl, sym}
+use mathlib.Core.Path.{_≡_, refl}
 use mathlib.Core.Bool.{Bool, true, false}
 use mathlib.Core.List.{List, _++_}
 use native.Mathlib.Omega.{arith}
-use lib.Dec.{T, leb, eqb, lit≤}
+use lib.Dec.{eqb, lit≤}
 use lib.ListN.{length, drop}
 use borrow.Author.Tests.{leb-true, eqb-true, eqb-false}
 use Rattle.leaf.specs.Choosing.{pick}
 use Rattle.leaf.specs.Bytes.{over, over-whole}
-use Rattle.leaf.specs.Checks.{Fine, firstBad, none-bad}
-use Rattle.leaf.specs.Answers.{Answer, given, refused, refusedAt, refusalOf}
+use Rattle.leaf.specs.Checks.{Fine, none-bad}
+use Rattle.leaf.specs.Answers.{given, refused, refusedAt, refusalOf}
 use Rattle.leaf.specs.declared.Refusal.{Refusal}
 use Rattle.leaf.specs.declared.Refusal.the-variants.{Number, At}
 use Rattle.card.specs.Card.{lengthOf}
@@ -69,7 +69,8 @@ unfolding writeCard
 done-checks v s room h = none-bad 0 (recordChecks v s room) tt (given-by _ _ _ _ h .0) .1
 
 -- a record that the writer is done with was put whole over the buffer's first bytes
-pub put-whole : (v : ℕ) (s : Settings) (buffer : List ℕ) → writeCard v s (length buffer) ≡ given written → over (lengthOf v) (bytesOf v s) buffer ≡ recordOf v s ++ drop (lengthOf v) buffer
+pub put-whole : (v : ℕ) (s : Settings) (buffer : List ℕ) → writeCard v s (length buffer) ≡ given written
+    → over (lengthOf v) (bytesOf v s) buffer ≡ recordOf v s ++ drop (lengthOf v) buffer
 unfolding recordOf
 put-whole v s buffer h =
     let fits : lengthOf v ≤ length buffer = leb-true _ _ (done-checks v s (length buffer) h .1 .1 .0) in
