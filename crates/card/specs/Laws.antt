@@ -1,22 +1,21 @@
 -- Laws of the card's definitions, for this crate's proofs and for others'.
 use Prim.Native.Nat.{ℕ, _≤_}
-use mathlib.Core.Path.{_≡_, refl, sym}
+use mathlib.Core.Path.{_≡_, refl}
 use mathlib.Core.Bool.{Bool, true, false}
 use mathlib.Core.List.{List, _++_}
 use native.Mathlib.Omega.{arith}
-use lib.Dec.{T, leb, eqb, lit≤}
+use lib.Dec.{eqb, lit≤}
 use lib.ListN.{length, drop}
 use borrow.Author.Tests.{leb-true, eqb-true, eqb-false}
 use Rattle.leaf.specs.Choosing.{pick}
 use Rattle.leaf.specs.Bytes.{over, over-whole}
-use Rattle.leaf.specs.Checks.{Fine, firstBad, none-bad}
-use Rattle.leaf.specs.Answers.{Answer, given, refused, refusedAt, refusalOf}
+use Rattle.leaf.specs.Checks.{Fine, none-bad}
+use Rattle.leaf.specs.Answers.{given, refused, refusedAt, refusalOf}
 use Rattle.leaf.specs.declared.Refusal.{Refusal}
 use Rattle.leaf.specs.declared.Refusal.the-variants.{Number, At}
 use Rattle.card.specs.Card.{lengthOf}
-use Rattle.card.specs.Ranges.{faultOf}
 use Rattle.card.specs.Reading.{answerBy}
-use Rattle.card.specs.Writing.{bytesOf, recordOf, writeChecks, writeCard, written, leaves}
+use Rattle.card.specs.Writing.{bytesOf, recordOf, recordChecks, writeCard, written, leaves}
 use Rattle.card.specs.declared.Settings.{Settings}
 
 -- ---- what an answer says of the number by which it was given
@@ -57,21 +56,25 @@ lengths : (b : Bool) → pick b 39 44 ≤ 44
 lengths true = lit≤ tt
 lengths false = lit≤ tt
 
+pub lengthOf-le : (v : ℕ) → lengthOf v ≤ 44
+lengthOf-le v = lengths (eqb v 1)
+
 pub length-bytesOf : (v : ℕ) (s : Settings) → length (bytesOf v s) ≡ 44
 unfolding bytesOf
 length-bytesOf v s = refl
 
 -- where the writer is done, its version, the settings and the room passed
-pub done-checks : (v : ℕ) (s : Settings) (room : ℕ) → writeCard v s room ≡ given written → Fine (writeChecks v (eqb (faultOf v s) 0) room)
+pub done-checks : (v : ℕ) (s : Settings) (room : ℕ) → writeCard v s room ≡ given written → Fine (recordChecks v s room)
 unfolding writeCard
-done-checks v s room h = none-bad 0 (writeChecks v (eqb (faultOf v s) 0) room) tt (given-by _ _ _ _ h .0) .1
+done-checks v s room h = none-bad 0 (recordChecks v s room) tt (given-by _ _ _ _ h .0) .1
 
 -- a record that the writer is done with was put whole over the buffer's first bytes
-pub put-whole : (v : ℕ) (s : Settings) (buffer : List ℕ) → writeCard v s (length buffer) ≡ given written → over (lengthOf v) (bytesOf v s) buffer ≡ recordOf v s ++ drop (lengthOf v) buffer
+pub put-whole : (v : ℕ) (s : Settings) (buffer : List ℕ) → writeCard v s (length buffer) ≡ given written
+    → over (lengthOf v) (bytesOf v s) buffer ≡ recordOf v s ++ drop (lengthOf v) buffer
 unfolding recordOf
 put-whole v s buffer h =
     let fits : lengthOf v ≤ length buffer = leb-true _ _ (done-checks v s (length buffer) h .1 .1 .0) in
-    over-whole (lengthOf v) (bytesOf v s) buffer (rw length-bytesOf (lengths (eqb v 1))) fits
+    over-whole (lengthOf v) (bytesOf v s) buffer (rw length-bytesOf (lengthOf-le v)) fits
 
 -- "A refusal .. leaves buffers .. unchanged."
 pub refusal-leaves : (why : Refusal) (v : ℕ) (s : Settings) (buffer : List ℕ) → leaves (refusalOf why) v s buffer ≡ buffer

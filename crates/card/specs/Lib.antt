@@ -3,3 +3,5 @@ pub mod Ranges
 pub mod Reading
 pub mod Writing
 pub mod Laws
+pub mod Plain
+pub mod Lines

@@ -67,10 +67,10 @@ checksOf version s = settingsChecks FIRST 80 200 version s
 unfoldable pub faultOf : ℕ → Settings → ℕ
 faultOf version s = settingsFault FIRST 80 200 version s
 
--- "5 | setting out of range, with place of the first"
 abbrev pub inRange : Answer Unit
 inRange = given tt
 
+-- "5 | setting out of range, with place of the first"; "opening takes no version": it asks as beside version 2
 unfoldable pub checkSettings : ℕ → Settings → Answer Unit
 checkSettings version s = pick (eqb (faultOf version s) 0) inRange (refusedAt 5 (faultOf version s))
 

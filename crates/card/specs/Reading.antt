@@ -74,11 +74,13 @@ answerBy number place a = pick (eqb number 0) (given a) (pick (eqb number 5) (re
 
 -- ---- the answer
 
+-- the checks of an area and a reader, with "5 | setting out of range" asked of the area's own settings
+abbrev pub cardChecks : List ℕ → ℕ → List Check
+cardChecks area highest = readChecks area highest (eqb (faultOf (byte area 2) (settingsOf area)) 0)
+
 -- what a reader that knows the versions up to `highest` answers to an area
 unfoldable pub readCard : List ℕ → ℕ → Answer Settings
-readCard area highest =
-    answerBy (firstBad 0 (readChecks area highest (eqb (faultOf (byte area 2) (settingsOf area)) 0)))
-    (faultOf (byte area 2) (settingsOf area)) (settingsOf area)
+readCard area highest = answerBy (firstBad 0 (cardChecks area highest)) (faultOf (byte area 2) (settingsOf area)) (settingsOf area)
 
 -- what each case of the reader's answer is on paper
 abbrev pub paperOf : Reading → Answer Settings

@@ -21,7 +21,7 @@ use Rattle.card.specs.declared.Written.the-variants.{Done, NotWritten}
 abbrev pub rowBytes : Row → List ℕ
 rowBytes row = row .initial ∷ row .last ∷ row .delay ∷ row .drop ∷ []
 
--- the settings in their order, from vmax to Y; "Big-endian"
+-- the settings in their order, from vmax to Y; "Big-endian". With bit 2 off X and Y are 0, so that the writer "zeroes silent bytes"
 abbrev pub settingsBytes : Settings → List ℕ
 settingsBytes s =
     (s .vmax ∷ []) ++ pair (s .tick) ++ (s .bts ∷ [])
@@ -46,12 +46,16 @@ recordOf version s = take (lengthOf version) (bytesOf version s)
 abbrev pub writeChecks : ℕ → Bool → ℕ → List Check
 writeChecks version fine room = (2, known version) ∷ (5, fine) ∷ (13, leb (lengthOf version) room) ∷ []
 
+-- the checks of a version, settings and a buffer of `room` bytes
+abbrev pub recordChecks : ℕ → Settings → ℕ → List Check
+recordChecks version s room = writeChecks version (eqb (faultOf version s) 0) room
+
 abbrev pub written : Unit {0}
 written = tt
 
 -- "The version goes beside the settings to the writer": what it answers where it is lent a buffer of `room` bytes
 unfoldable pub writeCard : ℕ → Settings → ℕ → Answer Unit
-writeCard version s room = answerBy (firstBad 0 (writeChecks version (eqb (faultOf version s) 0) room)) (faultOf version s) written
+writeCard version s room = answerBy (firstBad 0 (recordChecks version s room)) (faultOf version s) written
 
 -- what each case of the writer's answer is on paper
 abbrev pub writtenOf : Written → Answer Unit

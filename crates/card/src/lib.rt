@@ -25,6 +25,13 @@ ghost use Rattle.card.specs.Ranges.{faultOf, checkedOf, checkSettings};
 ghost use Rattle.card.specs.Reading.{paperOf, answerBy, readChecks, readCard};
 ghost use Rattle.card.specs.Writing.{writtenOf, written, writeChecks, writeCard, bytesOf, leaves};
 
+// This card's kind: the byte of its first setting, and the range of vmax.
+const FIRST: u8 = 3;
+
+const VMAX_LOWEST: u8 = 80;
+
+const VMAX_HIGHEST: u8 = 200;
+
 // One control's numbers: initial and last speed in km/h, delay in samples, drop in hundredths of km/h a sample.
 // (The paper's final: `final` is a word of the language.)
 pub struct Row {
@@ -82,7 +89,7 @@ pub enum Written {
 fn fault(version: u8, s: Settings) -> u8
     ensures { λ r. ⌜ r ≡ faultOf version s ⌝ }
 {
-    settings_fault(3, 80, 200, version, s)
+    settings_fault(FIRST, VMAX_LOWEST, VMAX_HIGHEST, version, s)
 }
 
 // Are the settings in range beside this version. The opening, which has no version, asks as beside version 2.
@@ -113,16 +120,17 @@ fn read_refusal(area: &[u8], highest: u8, fine: bool) -> u8
     let version = byte_at(area, 2);
     let length = length_of(version);
     let stated = word_at(area, 0);
+    let fits = length as usize <= area.len();
     let n = or_fault(0, 6, known);
     let n = or_fault(n, 1, 3 <= area.len());
     let n = or_fault(n, 2, version != 0);
     let n = or_fault(n, 3, version <= highest);
     let n = or_fault(n, 4, stated == length);
-    let n = or_fault(n, 1, length as usize <= area.len());
+    let n = or_fault(n, 1, fits);
     or_fault(n, 5, fine)
 }
 
-fn read_answer(number: u8, place: u8, s: Settings) -> Reading
+fn reading_by(number: u8, place: u8, s: Settings) -> Reading
     ensures { λ r. ⌜ paperOf r ≡ answerBy number place s ⌝ }
 {
     let none = number == 0;
@@ -142,10 +150,10 @@ pub fn read(area: &[u8], highest: u8) -> Reading
     ensures { λ r. ⌜ paperOf r ≡ readCard (now (area .entry)) highest ⌝ }
 {
     let version = byte_at(area, 2);
-    let s = settings_from(3, version, area);
+    let s = settings_from(FIRST, version, area);
     let place = fault(version, s);
     let number = read_refusal(area, highest, place == 0);
-    read_answer(number, place, s)
+    reading_by(number, place, s)
 }
 
 // ---- writing
@@ -155,13 +163,13 @@ fn write_refusal(version: u8, fine: bool, room: usize) -> u8
     ensures { λ n. ⌜ n ≡ firstBad 0 (writeChecks version fine room) ⌝ }
 {
     let known = is_known(version);
-    let length = length_of(version);
+    let fits = length_of(version) as usize <= room;
     let n = or_fault(0, 2, known);
     let n = or_fault(n, 5, fine);
-    or_fault(n, 13, length as usize <= room)
+    or_fault(n, 13, fits)
 }
 
-fn write_answer(number: u8, place: u8) -> Written
+fn written_by(number: u8, place: u8) -> Written
     ensures { λ r. ⌜ writtenOf r ≡ answerBy number place written ⌝ }
 {
     let none = number == 0;
@@ -175,12 +183,12 @@ fn write_answer(number: u8, place: u8) -> Written
     Written::NotWritten(Refusal::Number(number))
 }
 
-fn answer_writing(version: u8, s: Settings, room: usize) -> Written
+fn write_answer(version: u8, s: Settings, room: usize) -> Written
     ensures { λ r. ⌜ writtenOf r ≡ writeCard version s room ⌝ }
 {
     let place = fault(version, s);
     let number = write_refusal(version, place == 0, room);
-    write_answer(number, place)
+    written_by(number, place)
 }
 
 // The record over the buffer's first bytes, as many as there is room for.
@@ -198,7 +206,7 @@ pub fn write(version: u8, s: Settings, buf: &mut [u8]) -> Written
     ensures { λ r. ⌜ writtenOf r ≡ writeCard version s (length (now (buf .entry))) ⌝ }
     ensures { λ r. ⌜ now (buf .exit) ≡ leaves (writtenOf r) version s (now (buf .entry)) ⌝ }
 {
-    let answer = answer_writing(version, s, buf.len());
+    let answer = write_answer(version, s, buf.len());
     match answer {
         Written::Done => {
             put(version, s, buf);

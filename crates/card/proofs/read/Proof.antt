@@ -5,7 +5,7 @@ use Rattle.card.specs.Reading.{readCard}
 
 returns : tie.Need-returns
 unfolding readCard
-returns c = simp (c .read-answer .ensures, c .before .read-refusal .ensures, c .before .before .fault .ensures, c .before .before .before .settings-from .ensures, c .before .before .before .before .byte-at .ensures)
+returns c = simp (c .reading-by .ensures, c .before .read-refusal .ensures, c .before .before .fault .ensures, c .before .before .before .settings-from .ensures, c .before .before .before .before .byte-at .ensures)
 
 pub read-spec : {M : Type 1} → statement M
 read-spec =

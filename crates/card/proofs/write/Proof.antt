@@ -11,14 +11,14 @@ returns : tie.Need-returns
 returns c =
     let p = c .before .before in
     let w = p .before .before .before .before in
-    let done = sym (w .answer-writing .ensures) ∙ ap writtenOf (p .before .before .enum-told .given .1) in
+    let done = sym (w .write-answer .ensures) ∙ ap writtenOf (p .before .before .enum-told .given .1) in
     (sym done, p .put .ensures ∙ put-whole _ _ _ done)
 
 returns-2 : tie.Need-returns-2
 returns-2 c =
     let w = c .before .before .before in
     let a = w .before .before .args in (
-      sym (ap writtenOf (c .before .answer .given .1)) ∙ w .answer-writing .ensures,
+      sym (ap writtenOf (c .before .answer .given .1)) ∙ w .write-answer .ensures,
       sym (refusal-leaves (c .before .answer .given .0 .0) (a .version) (a .s) (a .buf .now)),
     )
 

@@ -1,18 +1,12 @@
+use borrow.Author.Needs.{needs}
 use Rattle.card.proofs.write_answer.Statement.{statement}
 use Rattle.card.proofs.write_answer.Tie as tie
-use Rattle.card.specs.Reading.{answerBy}
+use Rattle.card.specs.Writing.{writeCard}
 
 returns : tie.Need-returns
-unfolding answerBy
-returns c = simp (c .if1 .taken)
-
-returns-2 : tie.Need-returns-2
-unfolding answerBy
-returns-2 c = simp (c .if2 .taken, c .before .if1 .left)
-
-returns-3 : tie.Need-returns-3
-unfolding answerBy
-returns-3 c = simp (c .if2 .left, c .before .if1 .left)
+unfolding writeCard
+returns c = simp (c .written-by .ensures, c .before .write-refusal .ensures, c .before .before .fault .ensures)
 
 pub write-answer-spec : {M : Type 1} → statement M
-write-answer-spec = tie.close (tie.spec returns returns-2 returns-3)
+write-answer-spec =
+    tie.close (tie.spec (λ c κs. search needs) (λ c κs. search needs) (λ c κs. search needs) returns)

@@ -1,0 +1,10 @@
+pub mod InRange
+pub mod Accepted
+pub mod Places
+pub mod Determined
+pub mod Buffer
+pub mod RoundTrip
+pub mod Same
+pub mod Silence
+pub mod Versions
+pub mod Examples
