@@ -1,0 +1,58 @@
+use borrow.Author.Needs.{needs}
+use mathlib.Core.Path.{_∙_}
+use Rattle.tone.proofs.Laws.{paper-of-beside, not-whole, is-whole, read-length, read-place, read-sound}
+use Rattle.tone.proofs.read_sheet.Statement.{statement}
+use Rattle.tone.proofs.read_sheet.Tie as tie
+
+word-at-requires : tie.Need-word-at-requires
+word-at-requires c κs = search needs
+
+refused-requires : tie.Need-refused-requires
+refused-requires c κs = search needs
+
+returns : tie.Need-returns
+returns c =
+    let w = not-whole _ _ (c .before .before .word-at .ensures) (c .before .if1 .taken) in
+    paper-of-beside _ _ (c .refused .ensures ∙ rw (read-length _ w))
+
+sheet-of-requires : tie.Need-sheet-of-requires
+sheet-of-requires c κs = search needs
+
+byte-at-requires : tie.Need-byte-at-requires
+byte-at-requires c κs = search needs
+
+fault-requires : tie.Need-fault-requires
+fault-requires c κs = search needs
+
+refused-requires-2 : tie.Need-refused-requires-2
+refused-requires-2 c κs = search needs
+
+returns-2 : tie.Need-returns-2
+returns-2 c =
+    let judge = c .before .before in
+    let first = judge .before .before .before .before in
+    let w = is-whole _ _ (first .word-at .ensures) (judge .before .before .before .if1 .left) in
+    let p = rw (judge .before .byte-at .ensures) at (judge .fault .ensures) in
+    paper-of-beside _ _ (c .refused2 .ensures ∙ rw (read-place _ w _ (judge .before .before .sheet-of .ensures) _ p (c .before .if2 .taken)))
+
+returns-3 : tie.Need-returns-3
+returns-3 c =
+    let judge = c .before in
+    let first = judge .before .before .before .before in
+    let w = is-whole _ _ (first .word-at .ensures) (judge .before .before .before .if1 .left) in
+    let p = rw (judge .before .byte-at .ensures) at (judge .fault .ensures) in
+    paper-of-beside _ _ (rw (read-sound _ w _ (judge .before .before .sheet-of .ensures) _ p (c .if2 .left)))
+
+pub read-sheet-spec : {M : Type 1} → statement M
+read-sheet-spec =
+    tie.close
+    (tie.spec
+    word-at-requires
+    refused-requires
+    returns
+    sheet-of-requires
+    byte-at-requires
+    fault-requires
+    refused-requires-2
+    returns-2
+    returns-3)
