@@ -22,7 +22,7 @@ use Rattle.leaf.specs.Checks.{Check, orFault, firstBad}
 use Rattle.tone.specs.declared.ToneRow.{ToneRow}
 use Rattle.tone.specs.declared.Sheet.{Sheet}
 use Rattle.tone.specs.declared.SheetAnswer.{SheetAnswer}
-use Rattle.tone.specs.declared.Fault.the-variants.{Sound, Refused}
+use Rattle.tone.specs.declared.Fault.the-variants.{Sound, Bad}
 use Rattle.tone.specs.declared.Reading.the-variants.{Beacon, Nothing}
 use Rattle.tone.specs.Tones.{VERSION, placeOf, rowAt, rowsOf, sheetOf, khz, allFinite, inOrder, rowOk, share, rowOf, sharesEarlier, goodAt, checksOf, faultOf, inRow, readingOf, offsetFrom, readFrom, noRow, wholeSheet, readSheet, paperOfSheet, besideOf, readUnder, classifyOf}
 
@@ -257,7 +257,7 @@ pub classify-reads : (area : List ℕ) (tone : Float) (r : SheetAnswer) → pape
 unfolding classifyOf
 classify-reads area tone r e k = rw (← e, k)
 
-pub classify-refuses : (area : List ℕ) (tone : Float) (r : SheetAnswer) (f : Refusal) → paperOfSheet r ≡ readSheet area → r .fault ≡ Refused f → classifyOf area tone ≡ refusalOf f
+pub classify-refuses : (area : List ℕ) (tone : Float) (r : SheetAnswer) (f : Refusal) → paperOfSheet r ≡ readSheet area → r .fault ≡ Bad f → classifyOf area tone ≡ refusalOf f
 unfolding classifyOf
 classify-refuses area tone r f e k = rw (← e, k) (same f)
   where

@@ -1,1 +1,6 @@
 pub mod Laws
+pub mod Apart
+pub mod FirstFault
+pub mod Readings
+pub mod OldBytes
+pub mod Determined

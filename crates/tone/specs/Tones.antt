@@ -16,12 +16,12 @@ use Rattle.leaf.specs.declared.Refusal.the-variants.{Number, At}
 use Rattle.tone.specs.declared.ToneRow.{ToneRow}
 use Rattle.tone.specs.declared.Sheet.{Sheet}
 use Rattle.tone.specs.declared.Fault.{Fault}
-use Rattle.tone.specs.declared.Fault.the-variants.{Sound, Refused}
+use Rattle.tone.specs.declared.Fault.the-variants.{Sound, Bad}
 use Rattle.tone.specs.declared.SheetAnswer.{SheetAnswer}
 use Rattle.tone.specs.declared.Reading.{Reading}
 use Rattle.tone.specs.declared.Reading.the-variants.{Beacon, Permanent, Nothing}
 use Rattle.tone.specs.declared.ToneAnswer.{ToneAnswer}
-use Rattle.tone.specs.declared.ToneAnswer.the-variants.{Reads, Refuses}
+use Rattle.tone.specs.declared.ToneAnswer.the-variants.{Reads, Refused}
 
 -- ---- "Sheet, 147 bytes: length, version 1, then twelve rows of three f32 bit patterns, permanent tone first, then beacons 1..11."
 
@@ -117,7 +117,7 @@ paperOfSheet r = go (r .fault)
   where
     go : Fault → Answer Sheet
     go Sound = given (r .sheet)
-    go (Refused f) = refusalOf f
+    go (Bad f) = refusalOf f
 
 -- what stands beside a refusal: twelve rows of zeros
 abbrev pub blankRow : ToneRow
@@ -129,8 +129,8 @@ blankSheet = record { rows = replicate ROWS blankRow }
 -- the whole of the reader's answer: the sheet, or a refusal with a blank sheet beside it
 abbrev pub besideOf : Answer Sheet → SheetAnswer
 besideOf (given sheet) = record { fault = Sound; sheet = sheet }
-besideOf (refused n) = record { fault = Refused (Number n); sheet = blankSheet }
-besideOf (refusedAt n place) = record { fault = Refused (At n place); sheet = blankSheet }
+besideOf (refused n) = record { fault = Bad (Number n); sheet = blankSheet }
+besideOf (refusedAt n place) = record { fault = Bad (At n place); sheet = blankSheet }
 
 -- ---- "A tone reads as a beacon with its offset, the permanent tone with its offset, or nothing."
 
@@ -164,7 +164,7 @@ classifyOf area tone = readUnder (readSheet area) tone
 -- the classifier's answer on paper
 abbrev pub paperOf : ToneAnswer → Answer Reading
 paperOf (Reads reading) = given reading
-paperOf (Refuses f) = refusalOf f
+paperOf (Refused f) = refusalOf f
 
 -- ---- "The ride's beacon code is 0 for permanent or nothing."
 abbrev pub codeOf : Reading → ℕ

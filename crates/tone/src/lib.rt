@@ -32,7 +32,7 @@ pub enum Reading {
 // Whether a sheet is accepted.
 pub enum Fault {
     Sound,
-    Refused(Refusal),
+    Bad(Refusal),
 }
 
 // A sheet, blank where it is refused.
@@ -44,7 +44,7 @@ pub struct SheetAnswer {
 // What a tone reads as, or the sheet's refusal.
 pub enum ToneAnswer {
     Reads(Reading),
-    Refuses(Refusal),
+    Refused(Refusal),
 }
 
 // ---- a row
@@ -193,14 +193,15 @@ fn refused(place: u8) -> SheetAnswer
 {
     let sheet = blank_sheet();
     SheetAnswer {
-        fault: Fault::Refused(Refusal::At(12, place)),
+        fault: Fault::Bad(Refusal::At(12, place)),
         sheet,
     }
 }
 
 // The sheet in the area, or refusal 12 with the place of the first fault and a blank sheet.
 pub fn read_sheet(area: &[u8]) -> SheetAnswer
-    ensures { λ r. ⌜ (paperOfSheet r ≡ readSheet (now (area .entry))) × (r ≡ besideOf (readSheet (now (area .entry)))) ⌝ }
+    ensures paper { λ r. ⌜ paperOfSheet r ≡ readSheet (now (area .entry)) ⌝ }
+    ensures whole { λ r. ⌜ r ≡ besideOf (readSheet (now (area .entry))) ⌝ }
 {
     let whole = (147 <= area.len()) & (leaf::word_at(area, 0) == 147);
     if !whole {
@@ -238,7 +239,7 @@ pub fn classify(area: &[u8], tone: f32) -> ToneAnswer
     let answer = read_sheet(area);
     let fault = answer.fault;
     match fault {
-        Fault::Refused(refusal) => ToneAnswer::Refuses(refusal),
+        Fault::Bad(refusal) => ToneAnswer::Refused(refusal),
         Fault::Sound => {
             let sheet = answer.sheet;
             ToneAnswer::Reads(sheet.read(tone))

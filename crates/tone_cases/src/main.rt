@@ -97,7 +97,7 @@ fn show(area: &[u8], bits: u32) {
     let answer = tone::classify(area, tone::float_of(bits));
     match answer {
         ToneAnswer::Reads(reading) => show_reading(reading),
-        ToneAnswer::Refuses(refusal) => show_refusal(refusal),
+        ToneAnswer::Refused(refusal) => show_refusal(refusal),
     }
     io::write_all(1, b"\n");
 }

@@ -1,31 +1,13 @@
 use borrow.Author.Needs.{needs}
 use mathlib.Core.Path.{_∙_}
-use Rattle.tone.proofs.Laws.{paper-of-beside, not-whole, is-whole, read-length, read-place, read-sound}
+use Rattle.tone.proofs.Laws.{is-whole, not-whole, paper-of-beside, read-length, read-place, read-sound}
 use Rattle.tone.proofs.read_sheet.Statement.{statement}
 use Rattle.tone.proofs.read_sheet.Tie as tie
-
-word-at-requires : tie.Need-word-at-requires
-word-at-requires c κs = search needs
-
-refused-requires : tie.Need-refused-requires
-refused-requires c κs = search needs
 
 returns : tie.Need-returns
 returns c =
     let w = not-whole _ _ (c .before .before .word-at .ensures) (c .before .if1 .taken) in
     paper-of-beside _ _ (c .refused .ensures ∙ rw (read-length _ w))
-
-sheet-of-requires : tie.Need-sheet-of-requires
-sheet-of-requires c κs = search needs
-
-byte-at-requires : tie.Need-byte-at-requires
-byte-at-requires c κs = search needs
-
-fault-requires : tie.Need-fault-requires
-fault-requires c κs = search needs
-
-refused-requires-2 : tie.Need-refused-requires-2
-refused-requires-2 c κs = search needs
 
 returns-2 : tie.Need-returns-2
 returns-2 c =
@@ -46,13 +28,5 @@ returns-3 c =
 pub read-sheet-spec : {M : Type 1} → statement M
 read-sheet-spec =
     tie.close
-    (tie.spec
-    word-at-requires
-    refused-requires
-    returns
-    sheet-of-requires
-    byte-at-requires
-    fault-requires
-    refused-requires-2
-    returns-2
-    returns-3)
+    (tie.spec (λ c κs. search needs) (λ c κs. search needs) returns (λ c κs. search needs) (λ c κs. search needs)
+    (λ c κs. search needs) (λ c κs. search needs) returns-2 returns-3)

@@ -3,9 +3,6 @@ use borrow.Author.Needs.{needs}
 use Rattle.tone.proofs.reading_of.Statement.{statement}
 use Rattle.tone.proofs.reading_of.Tie as tie
 
-cast-t5 : tie.Need-cast-t5
-cast-t5 c = search needs
-
 returns : tie.Need-returns
 returns c = rw (c .if1 .taken)
 
@@ -13,4 +10,4 @@ returns-2 : tie.Need-returns-2
 returns-2 c = later-beacon (c .before .args .k) (c .before .args .offset) (c .if1 .left)
 
 pub reading-of-spec : {M : Type 1} → statement M
-reading-of-spec = tie.close (tie.spec cast-t5 returns returns-2)
+reading-of-spec = tie.close (tie.spec (λ c. search needs) returns returns-2)

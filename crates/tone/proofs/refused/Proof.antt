@@ -2,11 +2,8 @@ use borrow.Author.Needs.{needs}
 use Rattle.tone.proofs.refused.Statement.{statement}
 use Rattle.tone.proofs.refused.Tie as tie
 
-blank-sheet-requires : tie.Need-blank-sheet-requires
-blank-sheet-requires c κs = search needs
-
 returns : tie.Need-returns
 returns c = simp (c .blank-sheet .ensures)
 
 pub refused-spec : {M : Type 1} → statement M
-refused-spec = tie.close (tie.spec blank-sheet-requires returns)
+refused-spec = tie.close (tie.spec (λ c κs. search needs) returns)

@@ -1,8 +1,8 @@
 use borrow.Author.Needs.{needs}
 use native.Mathlib.Omega.{arith}
-use mathlib.Core.Path.{_≡_, refl, ap}
-use Prim.Native.Nat.{_≤_, _-_}
-use lib.ListN.{take, length, length-set}
+use mathlib.Core.Path.{_≡_, ap, refl}
+use Prim.Native.Nat.{_-_, _≤_}
+use lib.ListN.{length, length-set, take}
 use Rattle.tone.specs.declared.Sheet.{Sheet}
 use Rattle.tone.specs.Tones.{rowsOf}
 use Rattle.tone.proofs.Laws.{rows-more, sheet-all}
@@ -15,33 +15,9 @@ Inv-loop area sheet₀ k₀ sheet k = (k ≤ 12) × (length (sheet .rows) ≡ 12
 abbrev μ-loop : tie.MeasureT-loop
 μ-loop area sheet₀ k₀ sheet k = 12 - k
 
-blank-sheet-requires : tie.Need-blank-sheet-requires Inv-loop μ-loop
-blank-sheet-requires c κs = search needs
-
 loop-holds : tie.Need-loop-holds Inv-loop μ-loop
 unfolding rowsOf
 loop-holds c = (search needs, ap (λ (s : Sheet). length (s .rows)) (c .blank-sheet .ensures), refl)
-
-place-of-requires : tie.Need-place-of-requires Inv-loop μ-loop
-place-of-requires c κs = omega arith
-
-cast-row-at : tie.Need-cast-row-at Inv-loop μ-loop
-cast-row-at c = omega arith
-
-row-at-requires : tie.Need-row-at-requires Inv-loop μ-loop
-row-at-requires c κs = omega arith
-
-mul-row : tie.Need-mul-row Inv-loop μ-loop
-mul-row c = omega arith
-
-element-set-from-row : tie.Need-element-set-from-row Inv-loop μ-loop
-element-set-from-row c = omega arith
-
-add-k : tie.Need-add-k Inv-loop μ-loop
-add-k c = omega arith
-
-loop-less : tie.Need-loop-less Inv-loop μ-loop
-loop-less c = omega arith
 
 loop-again : tie.Need-loop-again Inv-loop μ-loop
 loop-again c =
@@ -56,17 +32,6 @@ returns c = let e : c .before .loop .k ≡ 12 = omega arith in sheet-all (c .bef
 pub sheet-of-spec : {M : Type 1} → statement M
 sheet-of-spec =
     tie.close
-    (tie.spec
-    Inv-loop
-    μ-loop
-    blank-sheet-requires
-    loop-holds
-    place-of-requires
-    cast-row-at
-    row-at-requires
-    mul-row
-    element-set-from-row
-    add-k
-    loop-less
-    loop-again
+    (tie.spec Inv-loop μ-loop (λ c κs. search needs) loop-holds (λ c κs. omega arith) (λ c. omega arith)
+    (λ c κs. omega arith) (λ c. omega arith) (λ c. omega arith) (λ c. omega arith) (λ c. omega arith) loop-again
     returns)

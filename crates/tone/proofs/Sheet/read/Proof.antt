@@ -1,10 +1,10 @@
 use borrow.Author.Needs.{needs}
 use native.Mathlib.Omega.{arith}
-use mathlib.Core.Path.{_≡_, refl, sym, _∙_}
-use Prim.Native.Nat.{_≤_, _-_}
-use lib.ListN.{length, drop}
+use mathlib.Core.Path.{_∙_, _≡_, refl, sym}
+use Prim.Native.Nat.{_-_, _≤_}
+use lib.ListN.{drop, length}
 use Rattle.tone.specs.Tones.{readFrom}
-use Rattle.tone.proofs.Laws.{length-mapped, read-found, read-passed, read-done}
+use Rattle.tone.proofs.Laws.{length-mapped, read-done, read-found, read-passed}
 use Rattle.tone.proofs.Sheet.read.Statement.{statement}
 use Rattle.tone.proofs.Sheet.read.Tie as tie
 
@@ -21,29 +21,11 @@ long c = search (length-mapped, needs)
 loop-holds : tie.Need-loop-holds Inv-loop μ-loop
 loop-holds c = (search needs, refl)
 
-mul-row : tie.Need-mul-row Inv-loop μ-loop
-mul-row c = omega arith
-
-element-copy-out-row : tie.Need-element-copy-out-row Inv-loop μ-loop
-element-copy-out-row c = omega arith
-
-holds-requires : tie.Need-holds-requires Inv-loop μ-loop
-holds-requires c κs = search needs
-
-reading-of-requires : tie.Need-reading-of-requires Inv-loop μ-loop
-reading-of-requires c κs = omega arith
-
 returns : tie.Need-returns Inv-loop μ-loop
 returns c =
     let start = c .before .before .before .before .before .before .before in
     let l : length (start .args .t1 .rows) ≡ 12 = long start in
     cc (read-found (start .args .t1 .rows) (c .before .before .before .before .before .before .loop .k) (start .args .tone) (omega arith) (sym (c .before .before .before .holds .ensures) ∙ c .before .before .if1 .taken))
-
-add-k : tie.Need-add-k Inv-loop μ-loop
-add-k c = omega arith
-
-loop-less : tie.Need-loop-less Inv-loop μ-loop
-loop-less c = omega arith
 
 loop-again : tie.Need-loop-again Inv-loop μ-loop
 loop-again c =
@@ -60,16 +42,5 @@ returns-2 c =
 pub read-spec : {M : Type 1} → statement M
 read-spec =
     tie.close
-    (tie.spec
-    Inv-loop
-    μ-loop
-    loop-holds
-    mul-row
-    element-copy-out-row
-    holds-requires
-    reading-of-requires
-    returns
-    add-k
-    loop-less
-    loop-again
-    returns-2)
+    (tie.spec Inv-loop μ-loop loop-holds (λ c. omega arith) (λ c. omega arith) (λ c κs. search needs) (λ c κs. omega arith)
+    returns (λ c. omega arith) (λ c. omega arith) loop-again returns-2)

@@ -1,7 +1,7 @@
 use borrow.Author.Needs.{needs}
 use native.Mathlib.Omega.{arith}
 use mathlib.Core.Path.{_≡_, refl}
-use Prim.Native.Nat.{_≤_, _-_}
+use Prim.Native.Nat.{_-_, _≤_}
 use Rattle.tone.specs.Tones.{sharesEarlier}
 use Rattle.tone.proofs.Laws.{shares-more}
 use Rattle.tone.proofs.Sheet.shares_earlier.Statement.{statement}
@@ -17,21 +17,6 @@ loop-holds : tie.Need-loop-holds Inv-loop μ-loop
 unfolding sharesEarlier
 loop-holds c = (search needs, refl)
 
-mul-earlier : tie.Need-mul-earlier Inv-loop μ-loop
-mul-earlier c = omega arith
-
-element-copy-out-earlier : tie.Need-element-copy-out-earlier Inv-loop μ-loop
-element-copy-out-earlier c = omega arith
-
-shares-requires : tie.Need-shares-requires Inv-loop μ-loop
-shares-requires c κs = search needs
-
-add-i : tie.Need-add-i Inv-loop μ-loop
-add-i c = omega arith
-
-loop-less : tie.Need-loop-less Inv-loop μ-loop
-loop-less c = omega arith
-
 loop-again : tie.Need-loop-again Inv-loop μ-loop
 loop-again c = (omega arith, cc (shares-more _ _ _))
 
@@ -41,14 +26,5 @@ returns c = let e : c .before .loop .i ≡ c .before .before .args .n = omega ar
 pub shares-earlier-spec : {M : Type 1} → statement M
 shares-earlier-spec =
     tie.close
-    (tie.spec
-    Inv-loop
-    μ-loop
-    loop-holds
-    mul-earlier
-    element-copy-out-earlier
-    shares-requires
-    add-i
-    loop-less
-    loop-again
-    returns)
+    (tie.spec Inv-loop μ-loop loop-holds (λ c. omega arith) (λ c. omega arith) (λ c κs. search needs) (λ c. omega arith)
+    (λ c. omega arith) loop-again returns)
