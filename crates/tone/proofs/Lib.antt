@@ -4,3 +4,4 @@ pub mod FirstFault
 pub mod Readings
 pub mod OldBytes
 pub mod Determined
+pub mod Examples

@@ -1,3 +1,4 @@
+-- The reader's refusal is handed on; else the sheet's rows are read.
 use mathlib.Core.Path.{sym}
 use Rattle.tone.proofs.Laws.{classify-reads, classify-refuses}
 use borrow.Author.Needs.{needs}

@@ -1,3 +1,4 @@
+-- The test of the code is that of a NaN's pattern, and 0 / 0 is the NaN.
 use mathlib.Core.Path.{_∙_, sym}
 use Rattle.tone.proofs.Laws.{nan-made, no-nan, reads-nan}
 use borrow.Author.Needs.{needs}

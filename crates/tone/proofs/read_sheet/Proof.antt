@@ -1,3 +1,4 @@
+-- Each way out is one case of `readSheet`.
 use borrow.Author.Needs.{needs}
 use mathlib.Core.Path.{_∙_}
 use Rattle.tone.proofs.Laws.{is-whole, not-whole, paper-of-beside, read-length, read-place, read-sound}

@@ -1,3 +1,4 @@
+-- Row 0 is the permanent tone's, a later row its beacon's.
 use Rattle.tone.proofs.Laws.{later-beacon}
 use borrow.Author.Needs.{needs}
 use Rattle.tone.proofs.reading_of.Statement.{statement}

@@ -1,3 +1,4 @@
+-- A blank sheet beside refusal 12.
 use borrow.Author.Needs.{needs}
 use Rattle.tone.proofs.refused.Statement.{statement}
 use Rattle.tone.proofs.refused.Tie as tie

@@ -1,3 +1,4 @@
+-- After k turns the first k rows are the area's.
 use borrow.Author.Needs.{needs}
 use native.Mathlib.Omega.{arith}
 use mathlib.Core.Path.{_≡_, ap, refl}

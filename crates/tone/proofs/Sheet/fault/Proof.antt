@@ -1,3 +1,4 @@
+-- After k turns what was found is the first fault of the version and of k rows.
 use borrow.Author.Needs.{needs}
 use native.Mathlib.Omega.{arith}
 use mathlib.Core.Path.{_∙_, _≡_, sym}

@@ -1,3 +1,4 @@
+-- Both tests of the definition.
 use borrow.Author.Needs.{needs}
 use Rattle.tone.proofs.Sheet.good_at.Statement.{statement}
 use Rattle.tone.proofs.Sheet.good_at.Tie as tie

@@ -1,3 +1,4 @@
+-- What is read from row k on is what is read from the first on: the rows before k do not hold the tone.
 use borrow.Author.Needs.{needs}
 use native.Mathlib.Omega.{arith}
 use mathlib.Core.Path.{_∙_, _≡_, refl, sym}

@@ -1,3 +1,4 @@
+-- After i turns `any` says whether one of the first i rows shares a tone.
 use borrow.Author.Needs.{needs}
 use native.Mathlib.Omega.{arith}
 use mathlib.Core.Path.{_≡_, refl}
