@@ -9,7 +9,7 @@ use lib.Ieee.{fin, ofBits, ofInt, le, mul, sub}
 use Rattle.leaf.specs.Bytes.{byte, word, long}
 use Rattle.leaf.specs.Checks.{orFault}
 use Rattle.leaf.specs.Answers.{given, refusedAt}
-use Rattle.tone.specs.declared.Reading.the-variants.{Beacon, Permanent, Nothing}
+use Rattle.tone.specs.declared.Reading.the-variants.{Beacon, Permanent}
 use Rattle.tone.specs.Tones.{khz, rowOk, sharesEarlier, goodAt, faultOf, rowsOf, sheetOf, readSheet, readFrom, classifyOf}
 
 -- a row's bytes, of its three bit patterns
@@ -43,11 +43,6 @@ low-end = refl
 centre : classifyOf sheet (khz 60) ≡ given (Beacon 1 (khz 0))
 unfolding classifyOf readSheet sheetOf faultOf rowsOf rowOk goodAt sharesEarlier readFrom orFault byte word long ofBits ofInt le mul sub
 centre = refl
-
--- 100 kHz, between beacons 8 and 9
-between : classifyOf sheet (khz 100) ≡ given Nothing
-unfolding classifyOf readSheet sheetOf faultOf rowsOf rowOk goodAt sharesEarlier readFrom orFault byte word long ofBits ofInt le mul sub
-between = refl
 
 -- beacon 11's row is bad: its centre and high end lie above 128
 above : classifyOf true-sheet (khz 60) ≡ refusedAt 12 135

@@ -10,6 +10,17 @@ ghost use Rattle.tone.specs.Tones.{placeOf, rowAt, sheetOf, rowOk, share
 ghost use Rattle.leaf.specs.Answers.{refusedAt};
 use leaf::Refusal;
 
+// A sheet's length field, which is also how many of an area's bytes are looked at, and its version.
+const LENGTH: u16 = 147;
+
+const VERSION: u8 = 1;
+
+// The permanent tone's and eleven beacons'.
+const ROWS: usize = 12;
+
+// Refusal 12: tone sheet bad, with place.
+const BAD_SHEET: u8 = 12;
+
 // A row of the sheet, in kHz.
 pub struct ToneRow {
     pub low: f32,
@@ -125,7 +136,7 @@ fn sheet_of(area: &[u8]) -> Sheet
 {
     let mut sheet = blank_sheet();
     let mut k = 0;
-    while k < 12 {
+    while k < ROWS {
         let row = row_at(area, place_of(k) as u32);
         sheet.rows[k] = row;
         k += 1;
@@ -162,9 +173,9 @@ impl Sheet {
     fn fault(self, version: u8) -> u8
         ensures { λ r. ⌜ r ≡ faultOf version (self .rows) 12 ⌝ }
     {
-        let mut found = leaf::or_fault(0, 2, version == 1);
+        let mut found = leaf::or_fault(0, 2, version == VERSION);
         let mut k = 0;
-        while k < 12 {
+        while k < ROWS {
             found = leaf::or_fault(found, place_of(k), self.good_at(k));
             k += 1;
         }
@@ -176,7 +187,7 @@ impl Sheet {
         ensures { λ r. ⌜ r ≡ readFrom 0 (self .rows) tone ⌝ }
     {
         let mut k = 0;
-        while k < 12 {
+        while k < ROWS {
             let row = self.rows[k];
             if row.holds(tone) {
                 return reading_of(k, tone - row.centre);
@@ -193,7 +204,7 @@ fn refused(place: u8) -> SheetAnswer
 {
     let sheet = blank_sheet();
     SheetAnswer {
-        fault: Fault::Bad(Refusal::At(12, place)),
+        fault: Fault::Bad(Refusal::At(BAD_SHEET, place)),
         sheet,
     }
 }
@@ -203,7 +214,7 @@ pub fn read_sheet(area: &[u8]) -> SheetAnswer
     ensures paper { λ r. ⌜ paperOfSheet r ≡ readSheet (now (area .entry)) ⌝ }
     ensures whole { λ r. ⌜ r ≡ besideOf (readSheet (now (area .entry))) ⌝ }
 {
-    let whole = (147 <= area.len()) & (leaf::word_at(area, 0) == 147);
+    let whole = ((LENGTH as usize) <= area.len()) & (leaf::word_at(area, 0) == LENGTH);
     if !whole {
         return refused(0);
     }
