@@ -2,7 +2,7 @@
 use mathlib.Core.Logic.{_⊎_, inl, inr}
 use mathlib.Core.Bool.{Bool, true, false, not, _&&_}
 use mathlib.Core.Path.{refl}
-use Prim.Native.Nat.{ℕ, _*_, _≤_, _<_}
+use Prim.Native.Nat.{_*_, _≤_, _<_}
 use native.Mathlib.Nat.{le-refl, le-of-lt}
 use lib.Dec.{T, leb, leb→le, nleb→lt, lit<}
 use lib.Ieee.{Float, nan, inf, fin, binary32, ofInt, le, mul}
@@ -20,18 +20,13 @@ use Rattle.tone.proofs.Laws.{order}
 pub good : (r : ToneRow) → T (rowOk r) → Good r
 unfolding rowOk
 good r ok =
-    let o = order r (and-r (allFinite r) (inOrder r) ok) in
     let all = and-l (allFinite r) (inOrder r) ok in
     let two = and-l (finite (r .low) && finite (r .centre)) (finite (r .high)) all in
     record {
       low-finite = and-l (finite (r .low)) (finite (r .centre)) two;
       centre-finite = and-r (finite (r .low)) (finite (r .centre)) two;
       high-finite = and-r (finite (r .low) && finite (r .centre)) (finite (r .high)) all;
-      bottom = o .bottom;
-      left = o .left;
-      right = o .right;
-      ceiling = o .ceiling;
-      octave = o .octave;
+      order = order r (and-r (allFinite r) (inOrder r) ok);
     }
 
 pub ok : (r : ToneRow) → Good r → T (rowOk r)
@@ -46,7 +41,7 @@ ok r g =
     let h = finite (r .centre) in
     and-i (allFinite r) (inOrder r)
     (and-i (f && h) (finite (r .high)) (and-i f h (g .low-finite) (g .centre-finite)) (g .high-finite))
-    (and-i (((a && b) && c) && d) e (and-i ((a && b) && c) d (and-i (a && b) c (and-i a b (g .bottom) (g .left)) (g .right)) (g .ceiling)) (g .octave))
+    (and-i (((a && b) && c) && d) e (and-i ((a && b) && c) d (and-i (a && b) c (and-i a b (g .order .bottom) (g .order .left)) (g .order .right)) (g .order .ceiling)) (g .order .octave))
 
 pub lies : (r : ToneRow) (tone : Float) → T (inRow r tone) → LiesIn tone r
 lies r tone t = (and-l (le (r .low) tone) (le tone (r .high)) t, and-r (le (r .low) tone) (le tone (r .high)) t)
@@ -68,16 +63,16 @@ above-finite (fin false m e) a f = a
 
 module _ (r : ToneRow) (g : Good r) where
   pub low-positive : T (positive (r .low))
-  low-positive = above-finite (r .low) (above-of-le (khz 32) (r .low) (positive-of-value (khz 32) 32 1 low-value (lit< tt)) (g .bottom)) (g .low-finite)
+  low-positive = above-finite (r .low) (above-of-le (khz 32) (r .low) (positive-of-value (khz 32) 32 1 low-value (lit< tt)) (g .order .bottom)) (g .low-finite)
 
   pub centre-positive : T (positive (r .centre))
-  centre-positive = above-finite (r .centre) (above-of-le (r .low) (r .centre) low-positive (g .left)) (g .centre-finite)
+  centre-positive = above-finite (r .centre) (above-of-le (r .low) (r .centre) low-positive (g .order .left)) (g .centre-finite)
 
   pub high-positive : T (positive (r .high))
-  high-positive = above-finite (r .high) (above-of-le (r .centre) (r .high) centre-positive (g .right)) (g .high-finite)
+  high-positive = above-finite (r .high) (above-of-le (r .centre) (r .high) centre-positive (g .order .right)) (g .high-finite)
 
   across : T (le (r .low) (r .high))
-  across = le-trans-positive (r .low) (r .centre) (r .high) low-positive centre-positive high-positive (g .left) (g .right)
+  across = le-trans-positive (r .low) (r .centre) (r .high) low-positive centre-positive high-positive (g .order .left) (g .order .right)
 
 -- ---- the order of two values that are finite and above zero
 

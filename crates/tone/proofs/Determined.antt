@@ -1,11 +1,9 @@
 -- Any two results that a promise allows are equal. Assumes nothing.
-use mathlib.Core.Path.{_≡_, refl, sym, _∙_}
+use mathlib.Core.Path.{_≡_, sym, _∙_}
 use mathlib.Core.List.{List}
 use Prim.Native.Nat.{ℕ}
 use lib.Ieee.{Float}
-use Rattle.leaf.specs.declared.Refusal.{Refusal}
 use Rattle.leaf.specs.declared.Refusal.the-variants.{Number, At}
-use Rattle.leaf.specs.Answers.{Answer, given, refused, refusedAt, refusalOf}
 use Rattle.tone.specs.declared.SheetAnswer.{SheetAnswer}
 use Rattle.tone.specs.declared.ToneAnswer.{ToneAnswer}
 use Rattle.tone.specs.declared.ToneAnswer.the-variants.{Reads, Refused}

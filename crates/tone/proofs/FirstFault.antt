@@ -1,10 +1,10 @@
 -- A sheet is accepted exactly where it has no fault, and else refused with 12 at the place of its first fault, by the reader and by the classifier.
 -- Assumes nothing.
-use mathlib.Core.Path.{_≡_, refl, sym, ap, _∙_, subst}
+use mathlib.Core.Path.{_≡_, refl, ap, _∙_}
 use mathlib.Core.Logic.{_⊎_, inl, inr}
 use mathlib.Core.Bool.{Bool, true, false, not, _&&_, _||_}
-use mathlib.Core.List.{List, [], _∷_, _++_}
-use Prim.Native.Nat.{ℕ, zero, suc, _+_, _*_, _≤_, _<_}
+use mathlib.Core.List.{List, [], _∷_}
+use Prim.Native.Nat.{ℕ, zero, suc, _+_, _≤_, _<_}
 use native.Mathlib.Nat.{eq-or-lt-of-le, le-of-suc-le-suc, not-suc-le-zero}
 use native.Mathlib.Omega.{arith}
 use lib.Dec.{T, leb, eqb, leb→le, nleb→lt, le→leb, eqb→eq, T-not, not-T}
@@ -20,8 +20,8 @@ use Rattle.leaf.specs.Answers.{Answer, given, refused, refusedAt}
 use Rattle.tone.specs.declared.ToneRow.{ToneRow}
 use Rattle.tone.specs.declared.Sheet.{Sheet}
 use Rattle.tone.specs.declared.Reading.{Reading}
-use Rattle.tone.specs.Tones.{placeOf, rowAt, rowsOf, sheetOf, noRow, rowOf, rowOk, share, sharesEarlier, goodAt, faultOf, wholeSheet, readSheet, readFrom, readUnder, classifyOf}
-use Rattle.tone.specs.Facts.{LiesIn, rowIn, Met, MetBefore, Accepted, FirstFault, length-fault, version-fault, row-fault}
+use Rattle.tone.specs.Tones.{placeOf, rowsOf, sheetOf, noRow, rowOf, rowOk, share, sharesEarlier, goodAt, faultOf, wholeSheet, readSheet, readFrom, readUnder, classifyOf}
+use Rattle.tone.specs.Facts.{rowIn, Met, MetBefore, Accepted, FirstFault, length-fault, version-fault, row-fault}
 use Rattle.tone.proofs.Laws.{fault-none, fault-suc, read-length, read-place, read-sound}
 use Rattle.tone.proofs.Apart.{good, ok, shared-tone, tone-shared}
 

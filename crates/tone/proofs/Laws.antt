@@ -3,9 +3,9 @@
 use mathlib.Core.Path.{_≡_, refl, sym, _∙_, subst}
 use mathlib.Core.Bool.{Bool, true, false, not, _&&_, _||_}
 use mathlib.Core.List.{List, [], _∷_, _++_, map}
-use Prim.Native.Nat.{ℕ, zero, suc, _+_, _*_, _%_, _<_, _≤_}
+use Prim.Native.Nat.{ℕ, zero, suc, _+_, _%_, _<_, _≤_}
 use native.Mathlib.Numerals.{add-one}
-use lib.ListN.{length, getD, take, drop, set, drop-of-length-le, length-map}
+use lib.ListN.{length, take, drop, set, drop-of-length-le, length-map}
 use lib.Seq.{drop-cons, take-suc-set, take-all}
 use lib.Dec.{T, leb, eqb}
 use lib.Ieee.{Float, nan, inf, fin, binary32, ofBits, ofInt, nanBits, isNan, le, mul, div, sub}
@@ -24,6 +24,7 @@ use Rattle.tone.specs.declared.Sheet.{Sheet}
 use Rattle.tone.specs.declared.SheetAnswer.{SheetAnswer}
 use Rattle.tone.specs.declared.Fault.the-variants.{Sound, Bad}
 use Rattle.tone.specs.declared.Reading.the-variants.{Beacon, Nothing}
+use Rattle.tone.specs.Facts.{Order}
 use Rattle.tone.specs.Tones.{VERSION, placeOf, rowAt, rowsOf, sheetOf, khz, allFinite, inOrder, rowOk, share, rowOf, sharesEarlier, goodAt, checksOf, faultOf, inRow, readingOf, offsetFrom, readFrom, noRow, wholeSheet, readSheet, paperOfSheet, besideOf, readUnder, classifyOf}
 
 -- ---- bit patterns of an f32
@@ -114,14 +115,7 @@ based-khz : T (based (khz 32))
 unfolding ofInt
 based-khz = tt
 
--- the parts of `inOrder`, by name
-pub record Order (r : ToneRow) : Type 0 where
-  pub bottom : T (le (khz 32) (r .low))
-  pub left : T (le (r .low) (r .centre))
-  pub right : T (le (r .centre) (r .high))
-  pub ceiling : T (le (r .high) (khz 128))
-  pub octave : T (le (r .high) (mul binary32 (khz 2) (r .low)))
-
+-- the tests of the order, as facts
 pub order : (r : ToneRow) → T (inOrder r) → Order r
 order r t =
     let a = le (khz 32) (r .low) in

@@ -3,7 +3,7 @@
 use mathlib.Core.Path.{_≡_, refl, sym, ap, _∙_}
 use mathlib.Core.Bool.{Bool, true, false, not}
 use mathlib.Core.List.{List}
-use Prim.Native.Nat.{ℕ, zero, suc, _+_, _*_, _≤_, _<_}
+use Prim.Native.Nat.{ℕ, zero, suc, _+_, _≤_, _<_}
 use native.Mathlib.Nat.{le-of-lt}
 use native.Mathlib.Omega.{arith}
 use lib.Dec.{T, leb, leb→le, nleb→lt}
@@ -14,7 +14,7 @@ use borrow.Author.Tests.{le-leb}
 use Rattle.leaf.specs.Bytes.{byte, word, long}
 use Rattle.leaf.specs.Answers.{Answer}
 use Rattle.tone.specs.declared.Sheet.{Sheet}
-use Rattle.tone.specs.Tones.{placeOf, rowAt, rowsOf, sheetOf, readSheet, readUnder, classifyOf}
+use Rattle.tone.specs.Tones.{placeOf, rowsOf, sheetOf, readSheet, readUnder, classifyOf}
 
 -- ---- an area of 147 bytes or more, and its first 147
 

@@ -1,11 +1,11 @@
 -- What a tone reads as under an accepted sheet, said without an order of looking: it lies in one row at most, reads as that row with the offset from that
 -- row's centre, and as nothing where it lies in none. Assumes nothing.
-use mathlib.Core.Path.{_≡_, refl, sym, ap, _∙_, subst}
+use mathlib.Core.Path.{_≡_, refl, sym, ap, _∙_}
 use mathlib.Core.Logic.{_⊎_, inl, inr}
 use mathlib.Core.Bool.{Bool, true, false}
 use mathlib.Core.List.{List, [], _∷_}
 use Prim.Native.Nat.{ℕ, zero, suc, _+_, _≤_, _<_}
-use native.Mathlib.Nat.{not-suc-le-zero, add-zero, add-suc, suc-add, zero-add, le-of-suc-le-suc}
+use native.Mathlib.Nat.{not-suc-le-zero, add-zero, zero-add, le-of-suc-le-suc}
 use native.Mathlib.Omega.{arith}
 use lib.Dec.{T}
 use lib.ListN.{length}
@@ -15,9 +15,9 @@ use Rattle.leaf.specs.Choosing.{pick}
 use Rattle.leaf.specs.Answers.{given}
 use Rattle.tone.specs.declared.ToneRow.{ToneRow}
 use Rattle.tone.specs.declared.Reading.{Reading}
-use Rattle.tone.specs.declared.Reading.the-variants.{Beacon, Permanent, Nothing}
+use Rattle.tone.specs.declared.Reading.the-variants.{Nothing}
 use Rattle.tone.specs.Tones.{rowsOf, rowOf, inRow, readingOf, offsetFrom, readFrom, classifyOf, codeOf}
-use Rattle.tone.specs.Facts.{LiesIn, rowIn, Met, Accepted}
+use Rattle.tone.specs.Facts.{LiesIn, rowIn, Accepted}
 use Rattle.tone.proofs.Apart.{lies, in-row}
 use Rattle.tone.proofs.FirstFault.{rows-length, row-is, which, differ, classified, classifies}
 

@@ -11,16 +11,20 @@ use Rattle.leaf.specs.Bytes.{byte, word}
 use Rattle.tone.specs.declared.ToneRow.{ToneRow}
 use Rattle.tone.specs.Tones.{placeOf, rowAt, khz}
 
--- "A row needs finite numbers, 32 ≤ low ≤ centre ≤ high ≤ 128, high ≤ 2 × low"
-pub record Good (r : ToneRow) : Type 0 where
-  pub low-finite : T (finite (r .low))
-  pub centre-finite : T (finite (r .centre))
-  pub high-finite : T (finite (r .high))
+-- "32 ≤ low ≤ centre ≤ high ≤ 128, high ≤ 2 × low"
+pub record Order (r : ToneRow) : Type 0 where
   pub bottom : T (le (khz 32) (r .low))
   pub left : T (le (r .low) (r .centre))
   pub right : T (le (r .centre) (r .high))
   pub ceiling : T (le (r .high) (khz 128))
   pub octave : T (le (r .high) (mul binary32 (khz 2) (r .low)))
+
+-- "A row needs finite numbers", and these in their order
+pub record Good (r : ToneRow) : Type 0 where
+  pub low-finite : T (finite (r .low))
+  pub centre-finite : T (finite (r .centre))
+  pub high-finite : T (finite (r .high))
+  pub order : Order r
 
 -- "Ends belong to the row"
 abbrev pub LiesIn : Float → ToneRow → Type 0

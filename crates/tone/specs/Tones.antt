@@ -1,6 +1,6 @@
 -- Document 01, "Tones", sentence by sentence. A float is `lib.Ieee`'s: `nan`, `inf s`, or `fin s m e`, which is ±m * 2 ^ e, each
 -- written in one way only, so that `≡` is equality bit for bit. `le x y` is false where either is not a number. Definitions only.
-use mathlib.Core.Bool.{Bool, true, false, not, _&&_, _||_}
+use mathlib.Core.Bool.{Bool, false, not, _&&_, _||_}
 use mathlib.Core.List.{List, [], _∷_, _++_}
 use Prim.Native.Nat.{ℕ, zero, suc, _+_, _*_}
 use lib.ListN.{length, getD, replicate}

@@ -2,14 +2,15 @@
 use mathlib.Core.Path.{_∙_, sym}
 use Rattle.tone.proofs.Laws.{nan-made, no-nan, reads-nan}
 use borrow.Author.Needs.{needs}
+use native.Mathlib.Omega.{arith}
 use Rattle.tone.proofs.float_of.Statement.{statement}
 use Rattle.tone.proofs.float_of.Tie as tie
 
 float-from-bits-result : tie.Need-float-from-bits-result
-float-from-bits-result c = no-nan (c .before .args .bits) (c .if1 .left)
+float-from-bits-result c = no-nan (c .before .args .bits) (omega arith)
 
 returns : tie.Need-returns
-returns c = nan-made ∙ sym (reads-nan (c .before .args .bits) (c .if1 .taken))
+returns c = nan-made ∙ sym (reads-nan (c .before .args .bits) (omega arith))
 
 pub float-of-spec : {M : Type 1} → statement M
 float-of-spec = tie.close (tie.spec float-from-bits-result returns (λ c. search needs))

@@ -1,5 +1,6 @@
 -- Each way out is one case of `readSheet`.
 use borrow.Author.Needs.{needs}
+use native.Mathlib.Omega.{arith}
 use mathlib.Core.Path.{_∙_}
 use Rattle.tone.proofs.Laws.{is-whole, not-whole, paper-of-beside, read-length, read-place, read-sound}
 use Rattle.tone.proofs.read_sheet.Statement.{statement}
@@ -16,7 +17,7 @@ returns-2 c =
     let first = judge .before .before .before .before in
     let w = is-whole _ _ (first .word-at .ensures) (judge .before .before .before .if1 .left) in
     let p = rw (judge .before .byte-at .ensures) at (judge .fault .ensures) in
-    paper-of-beside _ _ (c .refused2 .ensures ∙ rw (read-place _ w _ (judge .before .before .sheet-of .ensures) _ p (c .before .if2 .taken)))
+    paper-of-beside _ _ (c .refused2 .ensures ∙ rw (read-place _ w _ (judge .before .before .sheet-of .ensures) _ p (λ e. omega arith)))
 
 returns-3 : tie.Need-returns-3
 returns-3 c =
@@ -24,7 +25,7 @@ returns-3 c =
     let first = judge .before .before .before .before in
     let w = is-whole _ _ (first .word-at .ensures) (judge .before .before .before .if1 .left) in
     let p = rw (judge .before .byte-at .ensures) at (judge .fault .ensures) in
-    paper-of-beside _ _ (rw (read-sound _ w _ (judge .before .before .sheet-of .ensures) _ p (c .if2 .left)))
+    paper-of-beside _ _ (rw (read-sound _ w _ (judge .before .before .sheet-of .ensures) _ p (omega arith)))
 
 pub read-sheet-spec : {M : Type 1} → statement M
 read-sheet-spec =
