@@ -1,0 +1,7 @@
+pub mod Laws
+pub mod Apart
+pub mod FirstFault
+pub mod Readings
+pub mod OldBytes
+pub mod Determined
+pub mod Examples
