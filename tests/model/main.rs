@@ -4,6 +4,7 @@ mod answer;
 mod card;
 mod check;
 mod controls;
+mod damage;
 mod desk;
 mod lessons;
 mod make;
