@@ -30,14 +30,14 @@ pub fn damaged(rng: &mut Rng, samples: usize) -> (Vec<u8>, Vec<u8>) {
     let mut bytes = recorded(train, &samples);
     let times = if rng.chance(30) { 2 } else { 1 };
     for _ in 0..times {
-        match rng.within(0, 9) {
-            0 | 1 => card = card_area(rng),
-            2 => {
+        match rng.within(0, 11) {
+            0 => card = card_area(rng),
+            1 => {
                 let place = rng.pick(&[0, 1, 2, 2, 3, 4, 6, 7, 8, 10, 38]).min(card.len() - 1);
                 card[place] = rng.pick(&[0, 1, 2, 3, 38, 201, 255]);
             }
-            3 => card.truncate(rng.within(0, 44) as usize),
-            4 => bend_frame(rng, &mut bytes),
+            2 => card.truncate(rng.within(0, 44) as usize),
+            3 | 4 => bend_frame(rng, &mut bytes),
             5 | 6 => {
                 train = if rng.chance(50) { rng.pick(&[0, 9, 255]) } else { rng.within(train as i64, 9) as u8 };
                 bytes = recorded(train, &samples);

@@ -6,6 +6,7 @@ mod check;
 mod controls;
 mod damage;
 mod desk;
+mod kinds;
 mod lessons;
 mod make;
 mod ride;

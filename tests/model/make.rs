@@ -78,6 +78,8 @@ fn quick_settings(rng: &mut Rng) -> Settings {
         row.delay = rng.within(0, 40) as u8;
         row.drop = rng.within(60, 255) as u8;
     }
+    // A low final leaves room for eight steps; one of nine km/h times a number is met exactly by m.
+    s.rows[6].r#final = if rng.chance(40) { rng.within(1, 19) as u8 } else { rng.pick(&[9, 18, 27, 36, 45, 54]) };
     s
 }
 
@@ -87,7 +89,7 @@ fn any_tick(rng: &mut Rng) -> u16 {
         0 => rng.within(10, 30) as u16,
         1 => rng.within(500, 1000) as u16,
         2 => rng.within(10, 1000) as u16,
-        3 => rng.pick(&[10, 20, 25, 40, 50, 1000]),
+        3 => rng.pick(&[10, 10, 20, 25, 40, 50, 1000, 12, 24, 463, 41, 271]),
         _ => 100,
     }
 }

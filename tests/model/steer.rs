@@ -2,14 +2,14 @@
 
 use crate::card::Settings;
 use crate::damage;
-use crate::desk::{train_speed, Main, Reminder, Sample, Session, Window, BTS, CONV, METRE};
+use crate::desk::{train_speed, Main, Reminder, Sample, Session, Window, METRE};
 use crate::make::{card_bytes, good_settings, Rng};
 use crate::ride::recorded;
 use crate::windows::waits_for;
 
 /// How the train runs against S.
 #[derive(Clone, Copy)]
-enum Pace {
+pub enum Pace {
     Stand,
     /// Around 5 and 40 km/h.
     Crawl,
@@ -29,22 +29,22 @@ struct Care {
     wrong: i64,
 }
 
-struct Driver {
-    rng: Rng,
-    session: Session,
+pub struct Driver {
+    pub rng: Rng,
+    pub session: Session,
     samples: Vec<Sample>,
     presses: Vec<(usize, u16)>,
     care: Care,
-    pace: Pace,
-    pace_left: i64,
-    goal: Goal,
-    goal_left: i64,
-    next_beacon: i64,
+    pub pace: Pace,
+    pub pace_left: i64,
+    pub goal: Goal,
+    pub goal_left: i64,
+    pub next_beacon: i64,
 }
 
 /// What a long ride is after for a while.
 #[derive(Clone, Copy, PartialEq)]
-enum Goal {
+pub enum Goal {
     Signals,
     Crossing,
     Stop,
@@ -112,12 +112,12 @@ pub fn run(rng: Rng, session: Session, kind: &str, samples: usize) -> Option<Vec
 }
 
 impl Driver {
-    fn tick(&self) -> i64 {
+    pub fn tick(&self) -> i64 {
         self.session.settings.tick as i64
     }
 
     /// Pulses for a pace at S.
-    fn pulses(&mut self, pace: Pace, s: i64) -> u16 {
+    pub fn pulses(&mut self, pace: Pace, s: i64) -> u16 {
         let tick = self.tick();
         let most = (100_000 / tick).min(65_535);
         let allowed = 25 * (s + 500) / 9 / tick;
@@ -132,7 +132,7 @@ impl Driver {
     }
 
     /// Runs the sample on the model and keeps it; false when it is refused, which ends the ride.
-    fn push(&mut self, sample: Sample) -> bool {
+    pub fn push(&mut self, sample: Sample) -> bool {
         self.samples.push(sample);
         if self.session.sample(sample).is_err() {
             return false;
@@ -142,7 +142,7 @@ impl Driver {
     }
 
     /// One sample with this beacon, in this mode: scheduled presses, and the pace held against the S it will meet.
-    fn go(&mut self, beacon: u8, mode: u8, more_buttons: u16) -> bool {
+    pub fn go(&mut self, beacon: u8, mode: u8, more_buttons: u16) -> bool {
         let n = self.samples.len();
         let mut buttons = more_buttons;
         for (at, mask) in &self.presses {
@@ -168,10 +168,51 @@ impl Driver {
                 sample.buttons |= 128;
             }
         }
+        if !matches!(pace, Pace::Stand) {
+            self.aim(&mut sample);
+        }
         if matches!(pace, Pace::Edge) && self.rng.within(0, 299) == 0 && (sample.pulses as i64 + 1) * self.tick() <= 100_000 {
             sample.pulses += 1;
         }
         self.push(sample)
+    }
+
+    /// Pulses that meet an end exactly or miss it by one: a distance about to be reached, the limit's final value,
+    /// 5 km/h while X counts.
+    fn aim(&mut self, sample: &mut Sample) {
+        let tick = self.tick();
+        let m = sample.pulses as i64 * tick;
+        let mut to_go = Vec::new();
+        if let Some(crossing) = self.session.crossing {
+            to_go.push(1_800 * METRE - crossing.distance);
+            if crossing.protected && self.rng.chance(4) {
+                sample.pulses = (11_112 / tick + self.rng.within(0, 1)) as u16;
+            }
+            let to_35 = 35 * METRE - crossing.distance;
+            if crossing.protected && (11_200..45_000).contains(&to_35) {
+                to_go.push(to_35);
+            }
+        }
+        match self.session.reminder {
+            Reminder::Waits => to_go.push(200 * METRE - self.session.main_distance),
+            Reminder::Pressed { distance, .. } => {
+                to_go.push(self.session.settings.y as i64 * METRE - distance);
+                if self.rng.chance(8) {
+                    sample.pulses = ((1_389 / tick) - self.rng.within(0, 1) + self.rng.within(0, 1)).max(0) as u16;
+                }
+            }
+            _ => {}
+        }
+        for rest in to_go {
+            if rest > 0 && rest <= (m + tick).max(20_000) && self.rng.chance(50) {
+                sample.pulses = (rest / tick - self.rng.pick(&[0, 0, 1])).clamp(0, 100_000 / tick) as u16;
+            }
+        }
+        if let Some(limit) = self.session.limit {
+            if self.rng.chance(5) {
+                sample.pulses = (25 * self.session.limit_final(limit) / 9 / tick + self.rng.within(0, 1)) as u16;
+            }
+        }
     }
 
     fn press_in(&mut self, samples: i64, mask: u16) {
@@ -192,7 +233,7 @@ impl Driver {
         }
         if let Reminder::Lit { age: 0, .. } = self.session.reminder {
             let age = if self.rng.chance(25) { self.rng.pick(&[1, 48, 49, 50, 51]) } else { self.rng.within(1, 49) };
-            if self.rng.chance(90) {
+            if self.rng.chance(65) {
                 self.press_in(age, 128);
             }
         }
@@ -213,7 +254,7 @@ impl Driver {
     }
 
     fn plan_answer(&mut self, window: Window) {
-        if self.rng.chance(self.care.asleep) {
+        if self.rng.chance(if window.left > 30 && !window.zone { 50 } else { self.care.asleep }) {
             return;
         }
         let at_an_end = self.rng.chance(self.care.at_an_end);
@@ -230,157 +271,11 @@ impl Driver {
     }
 
     /// A new pace now and then.
-    fn change_pace(&mut self, paces: &[Pace], shortest: i64, longest: i64) {
+    pub fn change_pace(&mut self, paces: &[Pace], shortest: i64, longest: i64) {
         self.pace_left -= 1;
         if self.pace_left <= 0 {
             self.pace = self.rng.pick(paces);
             self.pace_left = self.rng.within(shortest, longest);
         }
-    }
-
-    /// Pure random fields, mostly in range; standstill and rearm often enough that the brake goes off again.
-    fn random_sample(&mut self) -> bool {
-        let most = (100_000 / self.tick()).min(65_535);
-        let mut sample = Sample { mode: self.session.mode, ..Sample::default() };
-        sample.pulses = match self.rng.within(0, 9) {
-            0 | 1 => 0,
-            2 | 3 => self.pulses(Pace::Edge, self.session.s),
-            4 => self.pulses(Pace::Crawl, 0),
-            _ => self.rng.within(0, most.min(1 + 45_000 / self.tick())) as u16,
-        };
-        if self.rng.chance(40) {
-            sample.beacon = if self.rng.chance(20) { self.session.last_code } else { self.rng.within(0, 11) as u8 };
-        }
-        if self.rng.chance(45) {
-            sample.buttons = 1 << self.rng.within(0, 10);
-            if self.rng.chance(30) {
-                sample.buttons |= 1 << self.rng.within(0, 10) | 1 << self.rng.within(0, 10);
-            }
-            if self.rng.chance(5) {
-                sample.buttons = self.rng.within(0, 2047) as u16;
-            }
-        }
-        if self.session.cause != 0 && self.rng.chance(35) {
-            sample.pulses = 0;
-            sample.buttons |= 1024;
-        }
-        if self.rng.chance(2) {
-            sample.pulses = 0;
-            sample.mode = 3 - sample.mode;
-        }
-        if self.rng.within(0, 1500) == 0 {
-            damage::bend_sample(&mut self.rng, &mut sample, self.session.settings.tick);
-        }
-        self.push(sample)
-    }
-
-    /// Beacons close together, answered rightly, wrongly, late or not; a second 7 at either side of 80 m.
-    fn answers_sample(&mut self) -> bool {
-        let m = self.rng.within(3_000, 40_000);
-        let near = self.rng.within(0, 2_000);
-        self.change_pace(&[Pace::Under(near), Pace::Under(near), Pace::Edge, Pace::Crawl, Pace::Stand, Pace::Reckless(m)], 5, 60);
-        let mut buttons = 0;
-        if self.rng.chance(2) {
-            buttons |= 128;
-        }
-        let to_80 = 80 * METRE - self.session.main_distance;
-        if self.session.main == Main::Row(4) && to_80 > 0 && to_80 <= 100_000 && self.session.last_code != 7 && self.rng.chance(40) {
-            // Exactly 80 m, or one pulse less, after the 7 that is main.
-            let pulses = (to_80 / self.tick() - self.rng.within(0, 1)).clamp(0, 65_535);
-            return self.push(Sample { pulses: pulses as u16, beacon: 7, buttons, mode: CONV });
-        }
-        self.next_beacon -= 1;
-        if self.next_beacon > 0 {
-            let hold = self.session.last_code != 0 && self.rng.chance(15);
-            let beacon = if hold { self.session.last_code } else { 0 };
-            let mode = if self.rng.within(0, 400) == 0 || (self.session.mode == BTS && self.rng.chance(1)) {
-                3 - self.session.mode
-            } else {
-                self.session.mode
-            };
-            return self.go(beacon, mode, buttons);
-        }
-        self.next_beacon = match self.rng.within(0, 9) {
-            0..=3 => self.rng.within(1, 8),
-            4..=7 => self.rng.within(9, 35),
-            _ => self.rng.within(36, 60),
-        };
-        let code = self.rng.pick(&[1, 1, 1, 9, 9, 7, 7, 7, 3, 3, 8, 2, 5, 6, 10, 11, 4]);
-        if self.session.main == Main::Row(4) && self.rng.chance(40) {
-            return self.go(7, self.session.mode, buttons);
-        }
-        if code == 8 && self.rng.chance(50) {
-            buttons |= 128;
-        }
-        self.go(code, self.session.mode, buttons)
-    }
-
-    /// Close under S from below, so that S is seen falling and other causes than 5 come first.
-    fn drive_sample(&mut self) -> bool {
-        let near = self.rng.within(0, 800);
-        let far = self.rng.within(800, 4_000);
-        self.change_pace(&[Pace::Edge, Pace::Edge, Pace::Under(near), Pace::Under(far), Pace::Crawl, Pace::Stand], 10, 80);
-        let mut buttons = 0;
-        self.next_beacon -= 1;
-        if self.next_beacon == 20 && self.rng.chance(30) {
-            buttons |= 128;
-        }
-        let mode = if self.rng.within(0, 1500) == 0 || (self.session.mode == BTS && self.rng.within(0, 300) == 0) {
-            3 - self.session.mode
-        } else {
-            self.session.mode
-        };
-        if self.next_beacon > 0 {
-            return self.go(0, mode, buttons);
-        }
-        self.next_beacon = self.rng.within(25, 200);
-        let code = self.rng.pick(&[1, 1, 2, 3, 3, 4, 5, 6, 7, 8, 9, 10, 10, 11]);
-        self.go(code, mode, buttons)
-    }
-
-    /// One goal after the other, each held long enough for its distance or its samples.
-    fn long_sample(&mut self) -> bool {
-        self.goal_left -= 1;
-        if self.goal_left <= 0 {
-            self.new_goal();
-        }
-        if (self.goal == Goal::Bts) != (self.session.mode == BTS) {
-            return self.go(0, 3 - self.session.mode, 0);
-        }
-        self.next_beacon -= 1;
-        let mode = self.session.mode;
-        if self.next_beacon == 10 && self.goal == Goal::Stop {
-            return self.go(0, mode, 128);
-        }
-        if self.next_beacon > 0 {
-            return self.go(0, mode, 0);
-        }
-        let (code, gap) = match self.goal {
-            Goal::Signals => (self.rng.pick(&[1, 2, 3, 5, 6, 7]), self.rng.within(40, 200)),
-            Goal::Crossing => (self.rng.pick(&[4, 4, 3, 1, 9]), self.rng.within(300, 2_500)),
-            Goal::Stop => (8, self.rng.within(600, 1_500)),
-            Goal::Alongside => (self.rng.pick(&[1, 2, 3, 5, 6, 8]), self.rng.within(150, 400)),
-            Goal::Limit => (self.rng.pick(&[1, 9, 10, 11]), self.rng.within(200, 700)),
-            Goal::Bts => (self.rng.pick(&[4, 4, 9, 9, 10, 11, 10, 8, 3]), self.rng.within(30, 250)),
-        };
-        self.next_beacon = gap;
-        self.go(code, mode, 0)
-    }
-
-    fn new_goal(&mut self) {
-        // After a stop, something that takes its place.
-        self.goal = if self.goal == Goal::Stop && self.rng.chance(70) {
-            Goal::Alongside
-        } else {
-            self.rng.pick(&[Goal::Signals, Goal::Crossing, Goal::Stop, Goal::Stop, Goal::Limit, Goal::Bts])
-        };
-        self.goal_left = self.rng.within(300, 1_200);
-        if self.goal == Goal::Bts {
-            self.goal_left /= 2;
-        }
-        self.next_beacon = if self.goal == Goal::Alongside { 1 } else { self.rng.within(11, 30) };
-        let m = self.rng.within(12_000, 60_000);
-        let near = self.rng.within(0, 1_500);
-        self.pace = self.rng.pick(&[Pace::Edge, Pace::Under(near), Pace::Under(near), Pace::Under(near), Pace::Reckless(m)]);
     }
 }
