@@ -1,0 +1,86 @@
+//! Supervised speed, brake and lamps: document 01, the end of "Controls".
+
+use crate::desk::{Answer, Main, Reminder, Session, BTS};
+use crate::windows::waits_for;
+
+impl Session {
+    /// "Supervised speed S, hundredths of km/h, is the least of vmax, T and standing controls; in BTS also BTS speed."
+    pub fn supervised(&self) -> i64 {
+        let mut s = (100 * self.settings.vmax as i64).min(100 * self.t());
+        match self.main {
+            Main::Nothing | Main::Clear => {}
+            Main::Row(row) => s = s.min(self.settings.rows[row].at(self.main_age)),
+            Main::Stop => s = s.min(self.stop_value()),
+            // The stop zone "sets 10 km/h".
+            Main::Zone => s = s.min(1000),
+        }
+        if let Some(alongside) = self.alongside {
+            s = s.min(alongside.value);
+        }
+        if let Some(crossing) = self.crossing {
+            s = s.min(self.crossing_value(crossing));
+        }
+        if let Some(limit) = self.limit {
+            s = s.min(self.limit_value(limit));
+        }
+        if self.mode == BTS {
+            s = s.min(100 * self.settings.bts as i64);
+        }
+        s
+    }
+
+    /// "Any cause puts the brake on; the first stands, lowest number within a sample. It goes off in a standstill
+    /// sample with rearm, if on before and no cause arises."
+    pub fn brake(&mut self) {
+        let lowest = self.arisen.iter().copied().min().unwrap_or(0);
+        if self.cause == 0 {
+            self.cause = lowest;
+        } else if self.standstill && self.rearm && lowest == 0 {
+            self.cause = 0;
+        }
+    }
+
+    /// "Lamps, bits as buttons: what a window waits for, beacon 3's option, override armed or reminded, increase for
+    /// stop (ages 0..99, till used), 6 when limit is removable, 10 when braked at standstill."
+    fn lamps(&self) -> u16 {
+        let mut lamps = 0;
+        for window in self.main_window.iter().chain(self.side_window.iter()) {
+            if window.lit() {
+                for button in waits_for(window.beacon) {
+                    lamps |= 1 << button;
+                }
+            }
+        }
+        if self.offer.is_some() {
+            lamps |= 1 << 5;
+        }
+        if self.armed.is_some() || matches!(self.reminder, Reminder::Lit { .. }) {
+            lamps |= 1 << 7;
+        }
+        if self.stop_offers_increase() {
+            lamps |= 1 << 8;
+        }
+        if self.limit_removable() {
+            lamps |= 1 << 6;
+        }
+        if self.cause != 0 && self.standstill {
+            lamps |= 1 << 10;
+        }
+        lamps
+    }
+
+    /// "crossing icon (0, 1 protected, 2 unprotected)".
+    fn icon(&self) -> u8 {
+        match self.crossing {
+            Some(crossing) if !crossing.protected => 2,
+            Some(crossing) if crossing.shown => 1,
+            _ => 0,
+        }
+    }
+
+    /// "The answer is S, lamps, cause (0 none), crossing icon ..., limit standing or not", at the end of the sample
+    /// (R 45).
+    pub fn answer(&self) -> Answer {
+        Answer { s: self.s, lamps: self.lamps(), cause: self.cause, icon: self.icon(), limit: self.limit.is_some() }
+    }
+}

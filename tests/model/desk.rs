@@ -1,0 +1,354 @@
+//! The session and the order of a sample: document 01, "The sample".
+
+use crate::card::{Settings, START};
+
+/// "mode 1 CONV or 2 BTS".
+pub const CONV: u8 = 1;
+pub const BTS: u8 = 2;
+
+/// "Ages count samples from the sample that starts them (age 0) and stop at 30,000; distances stop at 60,000,000."
+pub const AGE_TOP: i64 = 30_000;
+pub const DISTANCE_TOP: i64 = 60_000_000;
+
+/// A metre in the travel's unit, tenths of a millimetre.
+pub const METRE: i64 = 10_000;
+
+/// What stands as main control. Nothing is BTS; clear is "no main limit".
+#[derive(Clone, Copy, PartialEq, Debug)]
+pub enum Main {
+    Nothing,
+    Clear,
+    Row(usize),
+    Stop,
+    Zone,
+}
+
+/// An open window: the beacon read, that reading's own age and distance, the samples left to its miss, which a
+/// displacing reading inherits (R 16), and whether it is the stop zone's.
+#[derive(Clone, Copy, PartialEq, Debug)]
+pub struct Window {
+    pub beacon: u8,
+    pub age: i64,
+    pub distance: i64,
+    pub left: i64,
+    pub zone: bool,
+}
+
+/// Beacon 3's option.
+#[derive(Clone, Copy, PartialEq, Debug)]
+pub struct Offer {
+    pub age: i64,
+    pub distance: i64,
+}
+
+#[derive(Clone, Copy, PartialEq, Debug)]
+pub struct Crossing {
+    pub protected: bool,
+    pub age: i64,
+    pub distance: i64,
+    pub shown: bool,
+}
+
+#[derive(Clone, Copy, PartialEq, Debug)]
+pub struct Limit {
+    pub age: i64,
+    pub steps: i64,
+}
+
+/// "the stop limit stays alongside": its own age, and the value it had (R 27).
+#[derive(Clone, Copy, PartialEq, Debug)]
+pub struct Alongside {
+    pub age: i64,
+    pub value: i64,
+}
+
+/// The reminder of the stop that is main.
+#[derive(Clone, Copy, PartialEq, Debug)]
+pub enum Reminder {
+    No,
+    Waits,
+    Lit { second: bool, age: i64 },
+    Pressed { samples: i64, distance: i64 },
+}
+
+/// "pulses (u16), beacon 0..11, buttons newly pressed (bits 0..10), mode 1 CONV or 2 BTS".
+#[derive(Clone, Copy, PartialEq, Debug, Default)]
+pub struct Sample {
+    pub pulses: u16,
+    pub beacon: u8,
+    pub buttons: u16,
+    pub mode: u8,
+}
+
+/// "The answer is S, lamps, cause (0 none), crossing icon (0, 1 protected, 2 unprotected), limit standing or not."
+#[derive(Clone, Copy, PartialEq, Debug)]
+pub struct Answer {
+    pub s: i64,
+    pub lamps: u16,
+    pub cause: u8,
+    pub icon: u8,
+    pub limit: bool,
+}
+
+#[derive(Clone, Debug)]
+pub struct Session {
+    pub settings: Settings,
+    pub train: u8,
+    pub mode: u8,
+    pub cause: u8,
+    pub last_code: u8,
+    pub main: Main,
+    pub main_age: i64,
+    pub main_distance: i64,
+    pub increased: bool,
+    pub alongside: Option<Alongside>,
+    pub armed: Option<i64>,
+    pub reminder: Reminder,
+    pub main_window: Option<Window>,
+    pub side_window: Option<Window>,
+    pub offer: Option<Offer>,
+    pub crossing: Option<Crossing>,
+    pub limit: Option<Limit>,
+    // This sample's own: m, whether it has pulses, the causes that arose in it, rearm pressed, S.
+    pub m: i64,
+    pub standstill: bool,
+    pub arisen: Vec<u8>,
+    pub rearm: bool,
+    pub s: i64,
+}
+
+/// "T for types 1..8: 80, 90, 100, 120, 140, 160, 180, 200 km/h (001)."
+pub fn train_speed(train: u8) -> i64 {
+    [80, 90, 100, 120, 140, 160, 180, 200][train as usize - 1]
+}
+
+/// "Compare exactly: m exceeds h hundredths of km/h when 9m > 25h."
+pub fn exceeds(m: i64, h: i64) -> bool {
+    9 * m > 25 * h
+}
+
+/// m is below h hundredths of km/h, as exactly.
+pub fn below(m: i64, h: i64) -> bool {
+    9 * m < 25 * h
+}
+
+fn older(age: i64) -> i64 {
+    (age + 1).min(AGE_TOP)
+}
+
+impl Session {
+    /// Opening: "5, 7", 7 "train type not 1..8, or faster than vmax". "It opens in CONV with the start row as main
+    /// (age 1 in the first sample), last code 0."
+    pub fn open(settings: Settings, train: u8) -> Result<Session, crate::card::Refusal> {
+        if let Some(place) = crate::card::first_bad(&settings) {
+            return Err(crate::card::refused_at(5, place));
+        }
+        if train < 1 || train > 8 || train_speed(train) > settings.vmax as i64 {
+            return Err(crate::card::refused(7));
+        }
+        Ok(Session {
+            settings,
+            train,
+            mode: CONV,
+            cause: 0,
+            last_code: 0,
+            main: Main::Row(START),
+            main_age: 0,
+            main_distance: 0,
+            increased: false,
+            alongside: None,
+            armed: None,
+            reminder: Reminder::No,
+            main_window: None,
+            side_window: None,
+            offer: None,
+            crossing: None,
+            limit: None,
+            m: 0,
+            standstill: true,
+            arisen: Vec::new(),
+            rearm: false,
+            s: 0,
+        })
+    }
+
+    /// T, in km/h.
+    pub fn t(&self) -> i64 {
+        train_speed(self.train)
+    }
+
+    /// "sample 8, 9, 10, 11"; 8 cannot occur, "every session we make is inside".
+    fn refusal(&self, sample: &Sample) -> Option<u8> {
+        if sample.beacon > 11 || sample.buttons > 0b111_1111_1111 || (sample.mode != CONV && sample.mode != BTS) {
+            return Some(9);
+        }
+        if sample.pulses as i64 * self.settings.tick as i64 > 100_000 {
+            return Some(10);
+        }
+        if sample.mode != self.mode && sample.pulses != 0 {
+            return Some(11);
+        }
+        None
+    }
+
+    /// "Order in a sample: mode; ages and distances advance, endings, reminders and missed windows; buttons, lowest
+    /// bit first; beacon; speed; brake." A refused sample changes nothing (R 14).
+    pub fn sample(&mut self, sample: Sample) -> Result<Answer, u8> {
+        if let Some(number) = self.refusal(&sample) {
+            return Err(number);
+        }
+        self.m = sample.pulses as i64 * self.settings.tick as i64;
+        self.standstill = sample.pulses == 0;
+        self.arisen.clear();
+        self.rearm = false;
+        let left_bts = self.change_mode(sample.mode);
+        self.advance();
+        if left_bts {
+            // "What a sample starts has age 0 in that sample, in whichever step it starts." (R 9)
+            self.main_age = 0;
+            self.main_distance = 0;
+        }
+        self.end_what_ends();
+        self.light_or_miss_reminder();
+        self.miss_main_window();
+        self.miss_side_window();
+        for bit in 0..=10 {
+            if sample.buttons >> bit & 1 == 1 {
+                self.press(bit);
+            }
+        }
+        self.beacon(sample.beacon);
+        self.turn_protected();
+        self.s = self.supervised();
+        if exceeds(self.m, self.s + 500) {
+            self.arises(5);
+        }
+        self.brake();
+        Ok(self.answer())
+    }
+
+    /// A cause arises in this sample.
+    pub fn arises(&mut self, cause: u8) {
+        self.arisen.push(cause);
+    }
+
+    /// "BTS: entering drops all controls, windows and armed override; leaving drops them and sets start." Brake,
+    /// cause and last code survive (R 42). True when BTS was left.
+    fn change_mode(&mut self, mode: u8) -> bool {
+        if mode == self.mode {
+            return false;
+        }
+        self.mode = mode;
+        self.main = if mode == BTS { Main::Nothing } else { Main::Row(START) };
+        self.main_age = 0;
+        self.main_distance = 0;
+        self.increased = false;
+        self.alongside = None;
+        self.armed = None;
+        self.reminder = Reminder::No;
+        self.main_window = None;
+        self.side_window = None;
+        self.offer = None;
+        self.crossing = None;
+        self.limit = None;
+        mode == CONV
+    }
+
+    /// "ages and distances advance": m is "the travel in tenths of a millimetre".
+    fn advance(&mut self) {
+        let m = self.m;
+        let farther = |distance: i64| (distance + m).min(DISTANCE_TOP);
+        self.main_age = older(self.main_age);
+        self.main_distance = farther(self.main_distance);
+        if let Some(alongside) = &mut self.alongside {
+            alongside.age = older(alongside.age);
+        }
+        if let Some(age) = &mut self.armed {
+            *age = older(*age);
+        }
+        for window in self.main_window.iter_mut().chain(self.side_window.iter_mut()) {
+            window.age = older(window.age);
+            window.distance = farther(window.distance);
+            window.left -= 1;
+        }
+        if let Some(offer) = &mut self.offer {
+            offer.age = older(offer.age);
+            offer.distance = farther(offer.distance);
+        }
+        if let Some(crossing) = &mut self.crossing {
+            crossing.age = older(crossing.age);
+            crossing.distance = farther(crossing.distance);
+        }
+        if let Some(limit) = &mut self.limit {
+            limit.age = older(limit.age);
+        }
+        match &mut self.reminder {
+            Reminder::Lit { age, .. } => *age = older(*age),
+            // "X samples past the press at 5 km/h or more": 9m ≥ 12,500 (R 30).
+            Reminder::Pressed { samples, distance } => {
+                if 9 * m >= 12_500 {
+                    *samples = older(*samples);
+                }
+                *distance = farther(*distance);
+            }
+            Reminder::No | Reminder::Waits => {}
+        }
+    }
+
+    /// Endings and the protected icon, in the second step (R 11): crossing "ends at 1,800 m"; stop alongside "for
+    /// ages 0..199"; override "for ages 0..99"; beacon 3's option "at ages 1..29"; icon "35 m after beacon 4".
+    /// "Distances (80 m aside) count as reached at that distance or more."
+    fn end_what_ends(&mut self) {
+        if self.crossing.is_some_and(|crossing| crossing.distance >= 1_800 * METRE) {
+            self.crossing = None;
+        }
+        if self.alongside.is_some_and(|alongside| alongside.age >= 200) {
+            self.alongside = None;
+        }
+        if self.armed.is_some_and(|age| age >= 100) {
+            self.armed = None;
+        }
+        if self.offer.is_some_and(|offer| offer.age >= 30) {
+            self.offer = None;
+        }
+        if let Some(crossing) = &mut self.crossing {
+            if crossing.protected && crossing.distance >= 35 * METRE {
+                crossing.shown = true;
+            }
+        }
+    }
+
+    /// "A press serves one use: main, then side, then others."
+    fn press(&mut self, button: u8) {
+        if self.answer_main(button) || self.answer_side(button) {
+            return;
+        }
+        match button {
+            5 => self.take_offer(),
+            6 => self.remove_limit(),
+            7 => self.press_override(),
+            8 => self.press_increase(),
+            9 => self.hide_step(),
+            10 => self.rearm = true,
+            _ => {}
+        }
+    }
+
+    /// "A beacon is read when its code differs from that of the accepted sample before, of either mode, read or not."
+    /// In BTS "Beacons are not read save function 3's": 4, 9, 10, 11.
+    fn beacon(&mut self, code: u8) {
+        let before = self.last_code;
+        self.last_code = code;
+        if code == 0 || code == before {
+            return;
+        }
+        if self.mode == BTS && !(self.settings.function(3) && [4, 9, 10, 11].contains(&code)) {
+            return;
+        }
+        match code {
+            4 => self.read_4(),
+            9 | 10 | 11 => self.read_side(code),
+            _ => self.read_main(code),
+        }
+    }
+}

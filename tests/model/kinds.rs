@@ -1,0 +1,178 @@
+//! The kinds of rides: what the track and the mode do, and the pace against S.
+
+use crate::damage;
+use crate::desk::{Main, Sample, BTS, CONV, METRE};
+use crate::steer::{Driver, Goal, Pace};
+
+impl Driver {
+    /// Pure random fields, mostly in range; standstill and rearm often enough that the brake goes off again.
+    pub fn random_sample(&mut self) -> bool {
+        let most = (100_000 / self.tick()).min(65_535);
+        let mut sample = Sample { mode: self.session.mode, ..Sample::default() };
+        sample.pulses = match self.rng.within(0, 9) {
+            0 | 1 => 0,
+            2 | 3 => self.pulses(Pace::Edge, self.session.s),
+            4 => self.pulses(Pace::Crawl, 0),
+            _ => self.rng.within(0, most.min(1 + 45_000 / self.tick())) as u16,
+        };
+        if self.rng.chance(40) {
+            sample.beacon = if self.rng.chance(20) { self.session.last_code } else { self.rng.within(0, 11) as u8 };
+        }
+        if self.rng.chance(45) {
+            sample.buttons = 1 << self.rng.within(0, 10);
+            if self.rng.chance(30) {
+                sample.buttons |= 1 << self.rng.within(0, 10) | 1 << self.rng.within(0, 10);
+            }
+            if self.rng.chance(5) {
+                sample.buttons = self.rng.within(0, 2047) as u16;
+            }
+        }
+        if self.session.cause != 0 && self.rng.chance(35) {
+            sample.pulses = 0;
+            sample.buttons |= 1024;
+        }
+        if self.rng.chance(2) {
+            sample.pulses = 0;
+            sample.mode = 3 - sample.mode;
+        }
+        if self.rng.within(0, 1500) == 0 {
+            damage::bend_sample(&mut self.rng, &mut sample, self.session.settings.tick);
+        }
+        self.push(sample)
+    }
+
+    /// Beacons close together, answered rightly, wrongly, late or not; a second 7 at either side of 80 m.
+    pub fn answers_sample(&mut self) -> bool {
+        let m = self.rng.within(3_000, 40_000);
+        let near = self.rng.within(0, 2_000);
+        self.change_pace(&[Pace::Under(near), Pace::Under(near), Pace::Edge, Pace::Crawl, Pace::Stand, Pace::Reckless(m)], 5, 60);
+        let mut buttons = 0;
+        if self.rng.chance(2) {
+            buttons |= 128;
+        }
+        let to_80 = 80 * METRE - self.session.main_distance;
+        if self.session.main == Main::Row(4) && to_80 > 0 && to_80 <= 100_000 && self.session.last_code != 7 && self.rng.chance(40) {
+            // Exactly 80 m, or one pulse less, after the 7 that is main.
+            let pulses = (to_80 / self.tick() - self.rng.within(0, 1)).clamp(0, 65_535);
+            return self.push(Sample { pulses: pulses as u16, beacon: 7, buttons, mode: CONV });
+        }
+        if self.session.main_window.is_some_and(|window| window.zone && window.age < 9) && self.rng.chance(8) {
+            // Over the zone's window while more than 30 samples are left to its miss.
+            let code = self.rng.pick(&[1, 2, 5, 6, 7]);
+            return self.go(code, CONV, buttons);
+        }
+        self.next_beacon -= 1;
+        if self.next_beacon > 0 {
+            let hold = self.session.last_code != 0 && self.rng.chance(15);
+            let beacon = if hold { self.session.last_code } else { 0 };
+            let mode = if self.rng.within(0, 400) == 0 || (self.session.mode == BTS && self.rng.chance(1)) {
+                3 - self.session.mode
+            } else {
+                self.session.mode
+            };
+            return self.go(beacon, mode, buttons);
+        }
+        self.next_beacon = match self.rng.within(0, 9) {
+            0..=3 => self.rng.within(1, 8),
+            4..=7 => self.rng.within(9, 35),
+            _ => self.rng.within(36, 60),
+        };
+        let code = self.rng.pick(&[1, 1, 1, 9, 9, 7, 7, 7, 3, 3, 8, 2, 5, 6, 10, 11, 4]);
+        if self.session.main == Main::Row(4) && self.rng.chance(60) {
+            let code = self.rng.pick(&[7, 7, 1]);
+            return self.go(code, self.session.mode, buttons);
+        }
+        if code == 7 && self.rng.chance(35) {
+            // Fast to 80 m with nothing between.
+            self.pace = Pace::Reckless(self.rng.within(40_000, 95_000));
+            self.pace_left = 25;
+            self.next_beacon = 25;
+        }
+        if code == 8 && self.rng.chance(50) {
+            buttons |= 128;
+        }
+        if self.session.offer.is_some() && self.rng.chance(30) {
+            // A beacon 4 while beacon 3's option is open.
+            self.pace = Pace::Reckless(self.rng.within(11_200, 16_000));
+            return self.go(4, self.session.mode, buttons);
+        }
+        self.go(code, self.session.mode, buttons)
+    }
+
+    /// Close under S from below, so that S is seen falling and other causes than 5 come first.
+    pub fn drive_sample(&mut self) -> bool {
+        let near = self.rng.within(0, 800);
+        let far = self.rng.within(800, 4_000);
+        self.change_pace(&[Pace::Edge, Pace::Edge, Pace::Under(near), Pace::Under(far), Pace::Crawl, Pace::Stand], 10, 80);
+        let mut buttons = 0;
+        self.next_beacon -= 1;
+        if self.next_beacon == 20 && self.rng.chance(30) {
+            buttons |= 128;
+        }
+        let mode = if self.rng.within(0, 1500) == 0 || (self.session.mode == BTS && self.rng.within(0, 300) == 0) {
+            3 - self.session.mode
+        } else {
+            self.session.mode
+        };
+        if self.next_beacon > 0 {
+            return self.go(0, mode, buttons);
+        }
+        self.next_beacon = self.rng.within(25, 200);
+        let code = self.rng.pick(&[1, 1, 2, 3, 3, 4, 5, 6, 7, 8, 9, 10, 10, 11]);
+        self.go(code, mode, buttons)
+    }
+
+    /// One goal after the other, each held long enough for its distance or its samples.
+    pub fn long_sample(&mut self) -> bool {
+        self.goal_left -= 1;
+        if self.goal_left <= 0 {
+            self.new_goal();
+        }
+        if (self.goal == Goal::Bts) != (self.session.mode == BTS) {
+            return self.go(0, 3 - self.session.mode, 0);
+        }
+        self.next_beacon -= 1;
+        let mode = self.session.mode;
+        if self.next_beacon == 10 && self.goal == Goal::Stop {
+            return self.go(0, mode, 128);
+        }
+        if self.next_beacon > 0 {
+            return self.go(0, mode, 0);
+        }
+        let (code, gap) = match self.goal {
+            Goal::Signals => (self.rng.pick(&[1, 2, 3, 5, 6, 7]), self.rng.within(40, 200)),
+            Goal::Crossing => (self.rng.pick(&[4, 4, 3, 1, 9]), self.rng.within(300, 2_500)),
+            Goal::Stop => (8, self.rng.within(300, 800)),
+            Goal::Alongside => (self.rng.pick(&[1, 2, 3, 5, 6, 8]), self.rng.within(150, 400)),
+            Goal::Limit => (self.rng.pick(&[1, 9, 10, 11]), self.rng.within(200, 700)),
+            Goal::Bts => (self.rng.pick(&[4, 4, 9, 9, 10, 11, 10, 8, 3]), self.rng.within(30, 250)),
+        };
+        self.next_beacon = gap;
+        self.go(code, mode, 0)
+    }
+
+    fn new_goal(&mut self) {
+        // After a stop, something that takes its place.
+        self.goal = if self.goal == Goal::Stop && self.rng.chance(70) {
+            Goal::Alongside
+        } else {
+            self.rng.pick(&[Goal::Signals, Goal::Crossing, Goal::Stop, Goal::Stop, Goal::Stop, Goal::Limit, Goal::Bts])
+        };
+        self.goal_left = self.rng.within(300, 1_200);
+        if self.goal == Goal::Bts {
+            self.goal_left /= 2;
+        }
+        if self.goal == Goal::Stop && self.rng.chance(40) {
+            // Taken over before its reminders are done.
+            self.goal_left = self.rng.within(30, 300);
+        }
+        self.next_beacon = if self.goal == Goal::Alongside { 1 } else { self.rng.within(11, 30) };
+        let m = self.rng.within(12_000, 60_000);
+        let near = self.rng.within(0, if self.goal == Goal::Stop { 300 } else { 1_500 });
+        self.pace = self.rng.pick(&[Pace::Edge, Pace::Under(near), Pace::Under(near), Pace::Under(near), Pace::Crawl, Pace::Reckless(m)]);
+        if self.goal == Goal::Stop && self.rng.chance(75) {
+            // Most stops are run at their own speed, so that the reminder's cause is the first.
+            self.pace = self.rng.pick(&[Pace::Edge, Pace::Under(near)]);
+        }
+    }
+}

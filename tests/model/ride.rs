@@ -1,0 +1,139 @@
+//! A ride, whole: document 01, "A ride, whole".
+
+use crate::card;
+use crate::desk::{Answer, Main, Reminder, Sample, Session, BTS};
+use std::collections::BTreeMap;
+use std::io::Write;
+
+pub struct Recording {
+    pub train: u8,
+    pub samples: Vec<Sample>,
+}
+
+/// "recording not exactly as long as stated, length not 6 + 6n with n ≤ 10,000, or version not 1". "Recording: length
+/// (4 bytes), version 1, train type, then six bytes a sample (pulses 2, beacon, buttons 2, mode)." (R 7)
+pub fn recording(bytes: &[u8]) -> Result<Recording, u8> {
+    if bytes.len() < 6 {
+        return Err(14);
+    }
+    let length = card::big_endian(&bytes[0..4]) as usize;
+    if length != bytes.len() || (length - 6) % 6 != 0 || (length - 6) / 6 > 10_000 || bytes[4] != 1 {
+        return Err(14);
+    }
+    let samples = bytes[6..].chunks(6).map(|six| Sample {
+        pulses: card::big_endian(&six[0..2]) as u16,
+        beacon: six[2],
+        buttons: card::big_endian(&six[3..5]) as u16,
+        mode: six[5],
+    });
+    Ok(Recording { train: bytes[5], samples: samples.collect() })
+}
+
+/// The bytes of a recording.
+pub fn recorded(train: u8, samples: &[Sample]) -> Vec<u8> {
+    let mut bytes = ((6 + 6 * samples.len()) as u32).to_be_bytes().to_vec();
+    bytes.extend([1, train]);
+    for sample in samples {
+        bytes.extend(sample.pulses.to_be_bytes());
+        bytes.push(sample.beacon);
+        bytes.extend(sample.buttons.to_be_bytes());
+        bytes.push(sample.mode);
+    }
+    bytes
+}
+
+/// The card (highest 2), then "a ride 14, 7, its samples". Calls back with each accepted sample's session and answer;
+/// gives the refusal that ended the ride, if any.
+pub fn ride(card: &[u8], bytes: &[u8], mut each: impl FnMut(&Session, Answer)) -> Option<u8> {
+    let settings = match card::read(2, card) {
+        Ok(settings) => settings,
+        Err(refusal) => return Some(refusal.number),
+    };
+    let recording = match recording(bytes) {
+        Ok(recording) => recording,
+        Err(number) => return Some(number),
+    };
+    let mut session = match Session::open(settings, recording.train) {
+        Ok(session) => session,
+        Err(refusal) => return Some(refusal.number),
+    };
+    for sample in recording.samples {
+        match session.sample(sample) {
+            Ok(answer) => each(&session, answer),
+            Err(number) => return Some(number),
+        }
+    }
+    None
+}
+
+/// "prints the heading, then reads the card (highest 2) from a file and the ride from standard input"; "A refusal
+/// prints the line `refused` and its number, and ends it." The whole answer, six columns, or the paper's four.
+pub fn print(card: &[u8], bytes: &[u8], whole: bool, out: &mut impl Write) -> std::io::Result<()> {
+    writeln!(out, "n limit lamps cause{}", if whole { " icon standing" } else { "" })?;
+    let mut lines = String::new();
+    let mut n = 0;
+    let end = ride(card, bytes, |_, answer| {
+        n += 1;
+        lines += &format!("{} {} {} {}", n, answer.s, answer.lamps, answer.cause);
+        if whole {
+            lines += &format!(" {} {}", answer.icon, answer.limit as u8);
+        }
+        lines += "\n";
+    });
+    out.write_all(lines.as_bytes())?;
+    match end {
+        Some(number) => writeln!(out, "refused {}", number),
+        None => Ok(()),
+    }
+}
+
+/// What a ride met, by key. "arose" counts samples in which a cause arose, "stood" samples in which it began to stand;
+/// "steps" counts samples with a standing limit of that many steps.
+pub fn cover(card: &[u8], bytes: &[u8]) -> BTreeMap<String, u64> {
+    let mut counts: BTreeMap<String, u64> = BTreeMap::new();
+    let mut last_code = 0;
+    let mut last_cause = 0;
+    let mut meets = |key: String| *counts.entry(key).or_insert(0) += 1;
+    let end = ride(card, bytes, |session, answer| {
+        meets("samples".into());
+        for cause in 1..=5 {
+            if session.arisen.contains(&cause) {
+                meets(format!("arose_{cause}"));
+            }
+        }
+        if last_cause == 0 && answer.cause != 0 {
+            meets(format!("stood_{}", answer.cause));
+        }
+        last_cause = answer.cause;
+        for bit in 0..=10 {
+            if answer.lamps >> bit & 1 == 1 {
+                meets(format!("lamp_{bit}"));
+            }
+        }
+        meets(format!("icon_{}", answer.icon));
+        meets(format!("mode_{}", session.mode));
+        if session.main == Main::Zone {
+            meets("zone".into());
+        }
+        if session.alongside.is_some() {
+            meets("alongside".into());
+        }
+        match session.reminder {
+            Reminder::Lit { second: false, age: 0 } => meets("reminder_first".into()),
+            Reminder::Lit { second: true, age: 0 } => meets("reminder_second".into()),
+            _ => {}
+        }
+        if let Some(limit) = session.limit {
+            meets(format!("steps_{}", limit.steps));
+        }
+        let code = session.last_code;
+        if session.mode == BTS && session.settings.function(3) && code != last_code && [4, 9, 10, 11].contains(&code) {
+            meets(format!("bts_reads_{code}"));
+        }
+        last_code = code;
+    });
+    if let Some(number) = end {
+        meets(format!("refused_{number}"));
+    }
+    counts
+}

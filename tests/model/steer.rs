@@ -1,0 +1,281 @@
+//! Rides by seed. The model itself runs beside the ride, so that presses and speeds meet what stands.
+
+use crate::card::Settings;
+use crate::damage;
+use crate::desk::{train_speed, Main, Reminder, Sample, Session, Window, METRE};
+use crate::make::{card_bytes, good_settings, Rng};
+use crate::ride::recorded;
+use crate::windows::waits_for;
+
+/// How the train runs against S.
+#[derive(Clone, Copy)]
+pub enum Pace {
+    Stand,
+    /// Around 5 and 40 km/h.
+    Crawl,
+    /// That many hundredths of km/h under S.
+    Under(i64),
+    /// At the last speed without cause 5.
+    Edge,
+    /// This m, whatever S is.
+    Reckless(i64),
+}
+
+/// How the driver answers: chances in percent.
+#[derive(Clone, Copy)]
+struct Care {
+    asleep: i64,
+    at_an_end: i64,
+    wrong: i64,
+}
+
+pub struct Driver {
+    pub rng: Rng,
+    pub session: Session,
+    samples: Vec<Sample>,
+    presses: Vec<(usize, u16)>,
+    care: Care,
+    pub pace: Pace,
+    pub pace_left: i64,
+    pub goal: Goal,
+    pub goal_left: i64,
+    pub next_beacon: i64,
+}
+
+/// What a long ride is after for a while.
+#[derive(Clone, Copy, PartialEq)]
+pub enum Goal {
+    Signals,
+    Crossing,
+    Stop,
+    Alongside,
+    Limit,
+    Bts,
+}
+
+/// A card's bytes and a recording's, by kind.
+pub fn make_ride(kind: &str, seed: u64, samples: u64) -> Option<(Vec<u8>, Vec<u8>)> {
+    let mut rng = Rng::new(kind, seed);
+    if kind == "damaged" {
+        return Some(damage::damaged(&mut rng, samples as usize));
+    }
+    let (card, session) = fresh(&mut rng, kind);
+    let train = session.train;
+    Some((card, recorded(train, &run(rng, session, kind, samples as usize)?)))
+}
+
+/// A good card, sometimes with garbage behind it, and the session it opens.
+pub fn fresh(rng: &mut Rng, kind: &str) -> (Vec<u8>, Session) {
+    let (mut version, mut settings) = good_settings(rng);
+    if kind == "long" && rng.chance(60) {
+        version = 2;
+        settings.functions = 15;
+        settings.x = rng.pick(&[2, 3, 20, 51, 120, 200]);
+        settings.y = rng.pick(&[3, 40, 100, 500, 2000]);
+    }
+    let mut card = card_bytes(rng, version, &settings);
+    if rng.chance(10) {
+        card.extend([0xff; 7]);
+    }
+    let train = train_for(rng, &settings);
+    (card, Session::open(settings, train).unwrap())
+}
+
+/// A train type that refusal 7 allows.
+pub fn train_for(rng: &mut Rng, settings: &Settings) -> u8 {
+    let allowed: Vec<u8> = (1..=8).filter(|train| train_speed(*train) <= settings.vmax as i64).collect();
+    if rng.chance(40) { allowed[allowed.len() - 1] } else { rng.pick(&allowed) }
+}
+
+pub fn run(rng: Rng, session: Session, kind: &str, samples: usize) -> Option<Vec<Sample>> {
+    let care = match kind {
+        "answers" => Care { asleep: 15, at_an_end: 40, wrong: 15 },
+        _ => Care { asleep: 4, at_an_end: 6, wrong: 4 },
+    };
+    let mut driver = Driver {
+        rng, session, samples: Vec::new(), presses: Vec::new(), care, pace: Pace::Stand, pace_left: 3,
+        goal: Goal::Signals, goal_left: 100, next_beacon: 5,
+    };
+    while driver.samples.len() < samples.min(10_000) {
+        let accepted = match kind {
+            "random" => driver.random_sample(),
+            "answers" => driver.answers_sample(),
+            "drive" => driver.drive_sample(),
+            "long" => driver.long_sample(),
+            _ => return None,
+        };
+        if !accepted {
+            break;
+        }
+    }
+    Some(driver.samples)
+}
+
+impl Driver {
+    pub fn tick(&self) -> i64 {
+        self.session.settings.tick as i64
+    }
+
+    /// Pulses for a pace at S.
+    pub fn pulses(&mut self, pace: Pace, s: i64) -> u16 {
+        let tick = self.tick();
+        let most = (100_000 / tick).min(65_535);
+        let allowed = 25 * (s + 500) / 9 / tick;
+        let pulses = match pace {
+            Pace::Stand => 0,
+            Pace::Crawl => self.rng.pick(&[1_388, 1_389, 1_400, 5_000, 11_111, 11_112]) / tick + self.rng.within(0, 1),
+            Pace::Under(h) => (25 * (s - h).max(0) / 9 / tick).min(allowed),
+            Pace::Edge => allowed,
+            Pace::Reckless(m) => m / tick,
+        };
+        pulses.clamp(0, most) as u16
+    }
+
+    /// Runs the sample on the model and keeps it; false when it is refused, which ends the ride.
+    pub fn push(&mut self, sample: Sample) -> bool {
+        self.samples.push(sample);
+        if self.session.sample(sample).is_err() {
+            return false;
+        }
+        self.plan();
+        true
+    }
+
+    /// One sample with this beacon, in this mode: scheduled presses, and the pace held against the S it will meet.
+    pub fn go(&mut self, beacon: u8, mode: u8, more_buttons: u16) -> bool {
+        let n = self.samples.len();
+        let mut buttons = more_buttons;
+        for (at, mask) in &self.presses {
+            if *at == n {
+                buttons |= *mask;
+            }
+        }
+        self.presses.retain(|(at, _)| *at > n);
+        let mut pace = self.pace;
+        if self.session.cause != 0 && !matches!(pace, Pace::Reckless(_)) {
+            pace = Pace::Stand;
+            buttons |= if self.rng.chance(40) { 1024 } else { 0 };
+        }
+        if mode != self.session.mode {
+            pace = Pace::Stand;
+        }
+        let s = self.session.s;
+        let mut sample = Sample { pulses: self.pulses(pace, s), beacon, buttons, mode };
+        let mut trial = self.session.clone();
+        if trial.sample(sample).is_ok() {
+            sample.pulses = self.pulses(pace, trial.s);
+            if matches!(trial.reminder, Reminder::Lit { age: 0, .. }) && self.rng.chance(20) {
+                sample.buttons |= 128;
+            }
+        }
+        if !matches!(pace, Pace::Stand) {
+            self.aim(&mut sample);
+        }
+        if matches!(pace, Pace::Edge) && self.rng.within(0, 299) == 0 && (sample.pulses as i64 + 1) * self.tick() <= 100_000 {
+            sample.pulses += 1;
+        }
+        self.push(sample)
+    }
+
+    /// Pulses that meet an end exactly or miss it by one: a distance about to be reached, the limit's final value,
+    /// 5 km/h while X counts.
+    fn aim(&mut self, sample: &mut Sample) {
+        let tick = self.tick();
+        let m = sample.pulses as i64 * tick;
+        let mut to_go = Vec::new();
+        if let Some(crossing) = self.session.crossing {
+            to_go.push(1_800 * METRE - crossing.distance);
+            if crossing.protected && self.rng.chance(4) {
+                sample.pulses = (11_112 / tick + self.rng.within(0, 1)) as u16;
+            }
+            let to_35 = 35 * METRE - crossing.distance;
+            if crossing.protected && (11_200..45_000).contains(&to_35) {
+                to_go.push(to_35);
+            }
+        }
+        match self.session.reminder {
+            Reminder::Waits => to_go.push(200 * METRE - self.session.main_distance),
+            Reminder::Pressed { distance, .. } => {
+                to_go.push(self.session.settings.y as i64 * METRE - distance);
+                if self.rng.chance(8) {
+                    sample.pulses = ((1_389 / tick) - self.rng.within(0, 1) + self.rng.within(0, 1)).max(0) as u16;
+                }
+            }
+            _ => {}
+        }
+        for rest in to_go {
+            if rest > 0 && rest <= (m + tick).max(20_000) && self.rng.chance(50) {
+                sample.pulses = (rest / tick - self.rng.pick(&[0, 0, 1])).clamp(0, 100_000 / tick) as u16;
+            }
+        }
+        if let Some(limit) = self.session.limit {
+            if self.rng.chance(5) {
+                sample.pulses = (25 * self.session.limit_final(limit) / 9 / tick + self.rng.within(0, 1)) as u16;
+            }
+        }
+    }
+
+    fn press_in(&mut self, samples: i64, mask: u16) {
+        self.presses.push((self.samples.len() + samples as usize - 1, mask));
+    }
+
+    /// Schedules presses for what this sample has started.
+    fn plan(&mut self) {
+        let (main, side) = (self.session.main_window, self.session.side_window);
+        for window in main.iter().chain(side.iter()) {
+            if window.age == 0 {
+                self.plan_answer(*window);
+            }
+        }
+        if self.session.offer.is_some_and(|offer| offer.age == 0) && self.rng.chance(50) {
+            let age = if self.rng.chance(30) { self.rng.pick(&[1, 28, 29, 30]) } else { self.rng.within(1, 29) };
+            self.press_in(age, 32);
+        }
+        if let Reminder::Lit { age: 0, .. } = self.session.reminder {
+            let age = if self.rng.chance(25) { self.rng.pick(&[1, 48, 49, 50, 51]) } else { self.rng.within(1, 49) };
+            if self.rng.chance(65) {
+                self.press_in(age, 128);
+            }
+        }
+        if self.session.main == Main::Stop && self.session.main_age == 0 && self.rng.chance(60) {
+            let age = if self.rng.chance(30) { self.rng.pick(&[1, 98, 99, 100]) } else { self.rng.within(1, 99) };
+            self.press_in(age, 256);
+        }
+        if let Some(limit) = self.session.limit {
+            let (step, other) = if self.session.limit_at_final(limit) { (8, 2) } else { (1, 1) };
+            if self.rng.chance(step) {
+                self.press_in(1, 256);
+            }
+            if self.rng.chance(other) {
+                let mask = self.rng.pick(&[64, 512, 512]);
+                self.press_in(1, mask);
+            }
+        }
+    }
+
+    fn plan_answer(&mut self, window: Window) {
+        if self.rng.chance(if window.left > 30 && !window.zone { 50 } else { self.care.asleep }) {
+            return;
+        }
+        let at_an_end = self.rng.chance(self.care.at_an_end);
+        let age = match (window.zone, at_an_end) {
+            (true, true) => self.rng.pick(&[9, 10, 11, 38, 39, 40, 41]),
+            (true, false) => self.rng.within(10, 39),
+            (false, true) => self.rng.pick(&[1, 28, 29, 30, 31]),
+            (false, false) => self.rng.within(1, 29),
+        };
+        let right = 1 << self.rng.pick(waits_for(window.beacon));
+        let wrong = 1 << self.rng.within(0, 10);
+        let mask = if self.rng.chance(self.care.wrong) { self.rng.pick(&[wrong, wrong | right]) } else { right };
+        self.press_in(age, mask);
+    }
+
+    /// A new pace now and then.
+    pub fn change_pace(&mut self, paces: &[Pace], shortest: i64, longest: i64) {
+        self.pace_left -= 1;
+        if self.pace_left <= 0 {
+            self.pace = self.rng.pick(paces);
+            self.pace_left = self.rng.within(shortest, longest);
+        }
+    }
+}
