@@ -5,3 +5,6 @@ pub mod Apart
 pub mod Alike
 pub mod Cards
 pub mod Demand3
+pub mod Computes
+pub mod Rides
+pub mod Starred
