@@ -1,4 +1,4 @@
--- Every definition that an example computes through: `unfolding definitions` opens them all.
+-- Every definition that an example computes through: `unfolding card` opens those of the card, `unfolding definitions` all.
 use Rattle.leaf.specs.Bytes.{byte, word}
 use Rattle.leaf.specs.Checks.{orFault}
 use Rattle.card.specs.Card.{rowAt}
@@ -23,6 +23,10 @@ use Rattle.session.specs.Types.{typeSpeed, typeAllowed}
 use Rattle.demands.specs.Runs.{outcomes, lastly}
 use Rattle.demands.specs.Speaks.{speaks1, speaks2, differingSpeaks, silentFor}
 
+unfoldable pub card : Unit {0}
+unfolding byte word orFault rowAt settingsFault faultOf checkSettings functionsFrom settingsFrom answerBy readCard
+card = tt
+
 unfoldable pub definitions : Unit {0}
-unfolding outcomes lastly speaks1 speaks2 differingSpeaks silentFor byte word orFault rowAt settingsFault faultOf checkSettings functionsFrom settingsFrom answerBy readCard fallenOf curveOf rowSpeed mainOlder nearOf mayIncrease increaseLit alongsideOlder alongsideAfter overrideOlder reminderOlder firstMet reminderMissed takesPress secondMet remindedOf answersOf windowOlder missedOf timeLeft crossingOlder unprotectedSet protectedSet turnsAt turnedAt iconOf optionOlder limitSet steppedFinal limitSpeed mayStep removable deskOlder reminded mainCounts sideCounts mainMissed sideMissed advanced begun takenOver crossingSet limitNow modeChanged chosen answeredBy mainAnswered sideAnswered pressed freeFor optionUsed limitRemoved reminderAnswered overrideArmed stopIncreased limitStepped crossingPressed limitPressed overridePressed increasePressed hidePressed windowPresses allPresses pressesOf readsOf mainOpened sideOpened reading1 readingRow optionOffered reading3 reading4 zoneMet reading7 stopped reading8 reading9 readingLimit readingOf readIf beaconTaken lowest standingCause braked windowLamps controlLamps lampsOf movedOf answerOf judgedOf stepOf crossingTurned mainSpeed leastIf supervisedOf deskInside openSession settingsInside insideOf refusedBy ranOf sampleOf typeSpeed typeAllowed
+unfolding card outcomes lastly speaks1 speaks2 differingSpeaks silentFor fallenOf curveOf rowSpeed mainOlder nearOf mayIncrease increaseLit alongsideOlder alongsideAfter overrideOlder reminderOlder firstMet reminderMissed takesPress secondMet remindedOf answersOf windowOlder missedOf timeLeft crossingOlder unprotectedSet protectedSet turnsAt turnedAt iconOf optionOlder limitSet steppedFinal limitSpeed mayStep removable deskOlder reminded mainCounts sideCounts mainMissed sideMissed advanced begun takenOver crossingSet limitNow modeChanged chosen answeredBy mainAnswered sideAnswered pressed freeFor optionUsed limitRemoved reminderAnswered overrideArmed stopIncreased limitStepped crossingPressed limitPressed overridePressed increasePressed hidePressed windowPresses allPresses pressesOf readsOf mainOpened sideOpened reading1 readingRow optionOffered reading3 reading4 zoneMet reading7 stopped reading8 reading9 readingLimit readingOf readIf beaconTaken lowest standingCause braked windowLamps controlLamps lampsOf movedOf answerOf judgedOf stepOf crossingTurned mainSpeed leastIf supervisedOf deskInside openSession settingsInside insideOf refusedBy ranOf sampleOf typeSpeed typeAllowed
 definitions = tt

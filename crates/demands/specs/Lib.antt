@@ -8,3 +8,5 @@ pub mod Demand3
 pub mod Computes
 pub mod Rides
 pub mod Starred
+pub mod Parting
+pub mod Met
