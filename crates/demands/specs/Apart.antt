@@ -187,7 +187,13 @@ judged-alike s f v w top x cause d = rw (speed-alike s f v w top (crossingTurned
 abbrev read : Settings → ℕ → Sample → Desk → Desk
 read s top x d = pressesOf (x .buttons) (x .m) (s .limit) top (begun (x .bts) (x .m) (functionOn s 4) (s .x) (s .y) d .desk)
 
-module _ (s : Settings) (f v w top : ℕ) (x : Sample) (d : Desk) (h2 : RemindsAlike (x .bts) (x .m) (functionOn s 4) (bitOf f 4) (s .x) (s .y) v w d) (mode : read s top x d .bts ≡ x .bts) (h0 : Apart (functionOn s 1) (bitOf f 1) (eqb (x .beacon) 3 || eqb (x .beacon) 4)) (h1 : Apart (functionOn s 2) (bitOf f 2) (eqb (x .beacon) 7 && readsOf (x .beacon) (functionOn s 8) (read s top x d .bts) (read s top x d .code) && zoneMet (read s top x d))) (h3 : Apart (functionOn s 8) (bitOf f 8) (x .bts && isSide (x .beacon))) where
+module _
+    (s : Settings) (f v w top : ℕ) (x : Sample) (d : Desk)
+    (h2 : RemindsAlike (x .bts) (x .m) (functionOn s 4) (bitOf f 4) (s .x) (s .y) v w d)
+    (mode : read s top x d .bts ≡ x .bts)
+    (h0 : Apart (functionOn s 1) (bitOf f 1) (eqb (x .beacon) 3 || eqb (x .beacon) 4))
+    (h1 : Apart (functionOn s 2) (bitOf f 2) (eqb (x .beacon) 7 && readsOf (x .beacon) (functionOn s 8) (read s top x d .bts) (read s top x d .code) && zoneMet (read s top x d)))
+    (h3 : Apart (functionOn s 8) (bitOf f 8) (x .bts && isSide (x .beacon))) where
   moved-alike : movedOf (later s f v w) top x d ≡ movedOf s top x d
   unfolding movedOf
   moved-alike =

@@ -69,7 +69,19 @@ pub common : (a b : List ℕ) → Same a b 3 39
 unfolding settingsFrom
 common a b h =
     let row : (at : ℕ) → 3 ≤ at → at + 4 ≤ 39 → rowAt a at ≡ rowAt b at = λ at low high. same-row a b at (same-part a b 3 39 at (at + 4) h low high) in
-    rw (h 3 (lit≤ tt) (lit< tt), same-word a b 4 (same-part a b 3 39 4 6 h (lit≤ tt) (lit≤ tt)), h 6 (lit≤ tt) (lit< tt), row 7 (lit≤ tt) (lit≤ tt), row 11 (lit≤ tt) (lit≤ tt), row 15 (lit≤ tt) (lit≤ tt), row 19 (lit≤ tt) (lit≤ tt), row 23 (lit≤ tt) (lit≤ tt), row 27 (lit≤ tt) (lit≤ tt), row 31 (lit≤ tt) (lit≤ tt), row 35 (lit≤ tt) (lit≤ tt))
+    rw (
+      h 3 (lit≤ tt) (lit< tt),
+      same-word a b 4 (same-part a b 3 39 4 6 h (lit≤ tt) (lit≤ tt)),
+      h 6 (lit≤ tt) (lit< tt),
+      row 7 (lit≤ tt) (lit≤ tt),
+      row 11 (lit≤ tt) (lit≤ tt),
+      row 15 (lit≤ tt) (lit≤ tt),
+      row 19 (lit≤ tt) (lit≤ tt),
+      row 23 (lit≤ tt) (lit≤ tt),
+      row 27 (lit≤ tt) (lit≤ tt),
+      row 31 (lit≤ tt) (lit≤ tt),
+      row 35 (lit≤ tt) (lit≤ tt),
+    )
 
 -- settings in range are refused by opening only for the train type
 pub opens : (s : Settings) (train : ℕ) → SettingsMet 2 s

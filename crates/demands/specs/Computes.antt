@@ -1,4 +1,4 @@
--- Every definition that an example computes through: `unfolding card` opens those of the card, `unfolding definitions` all.
+-- The definitions that examples compute through, a layer at a time: `unfolding card` opens those of the card, `unfolding definitions` all.
 use Rattle.leaf.specs.Bytes.{byte, word}
 use Rattle.leaf.specs.Checks.{orFault}
 use Rattle.card.specs.Card.{rowAt}
@@ -27,6 +27,34 @@ unfoldable pub card : Unit {0}
 unfolding byte word orFault rowAt settingsFault faultOf checkSettings functionsFrom settingsFrom answerBy readCard
 card = tt
 
+unfoldable pub signal-parts : Unit {0}
+unfolding mainOlder nearOf mayIncrease increaseLit alongsideOlder alongsideAfter overrideOlder reminderOlder firstMet reminderMissed takesPress secondMet remindedOf answersOf windowOlder missedOf timeLeft
+signal-parts = tt
+
+unfoldable pub side-parts : Unit {0}
+unfolding fallenOf curveOf rowSpeed crossingOlder unprotectedSet protectedSet turnsAt turnedAt iconOf optionOlder limitSet steppedFinal limitSpeed mayStep removable
+side-parts = tt
+
+unfoldable pub desk : Unit {0}
+unfolding deskOlder reminded mainCounts sideCounts mainMissed sideMissed advanced begun takenOver crossingSet limitNow modeChanged
+desk = tt
+
+unfoldable pub presses : Unit {0}
+unfolding chosen answeredBy mainAnswered sideAnswered pressed freeFor optionUsed limitRemoved reminderAnswered overrideArmed stopIncreased limitStepped crossingPressed limitPressed overridePressed increasePressed hidePressed windowPresses allPresses pressesOf
+presses = tt
+
+unfoldable pub beacons : Unit {0}
+unfolding readsOf mainOpened sideOpened reading1 readingRow optionOffered reading3 reading4 zoneMet reading7 stopped reading8 reading9 readingLimit readingOf readIf beaconTaken
+beacons = tt
+
+unfoldable pub sample : Unit {0}
+unfolding lowest standingCause braked windowLamps controlLamps lampsOf movedOf answerOf judgedOf stepOf crossingTurned mainSpeed leastIf supervisedOf
+sample = tt
+
+unfoldable pub session : Unit {0}
+unfolding deskInside openSession settingsInside insideOf refusedBy ranOf sampleOf typeSpeed typeAllowed
+session = tt
+
 unfoldable pub definitions : Unit {0}
-unfolding card outcomes lastly speaks1 speaks2 differingSpeaks silentFor fallenOf curveOf rowSpeed mainOlder nearOf mayIncrease increaseLit alongsideOlder alongsideAfter overrideOlder reminderOlder firstMet reminderMissed takesPress secondMet remindedOf answersOf windowOlder missedOf timeLeft crossingOlder unprotectedSet protectedSet turnsAt turnedAt iconOf optionOlder limitSet steppedFinal limitSpeed mayStep removable deskOlder reminded mainCounts sideCounts mainMissed sideMissed advanced begun takenOver crossingSet limitNow modeChanged chosen answeredBy mainAnswered sideAnswered pressed freeFor optionUsed limitRemoved reminderAnswered overrideArmed stopIncreased limitStepped crossingPressed limitPressed overridePressed increasePressed hidePressed windowPresses allPresses pressesOf readsOf mainOpened sideOpened reading1 readingRow optionOffered reading3 reading4 zoneMet reading7 stopped reading8 reading9 readingLimit readingOf readIf beaconTaken lowest standingCause braked windowLamps controlLamps lampsOf movedOf answerOf judgedOf stepOf crossingTurned mainSpeed leastIf supervisedOf deskInside openSession settingsInside insideOf refusedBy ranOf sampleOf typeSpeed typeAllowed
+unfolding card signal-parts side-parts desk presses beacons sample session outcomes lastly speaks1 speaks2 differingSpeaks silentFor
 definitions = tt

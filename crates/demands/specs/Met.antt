@@ -50,7 +50,9 @@ speaks-early i h = cases (leb 40 i) refl (ltb i 44) refl (leb i 43) refl h
     cases true e true k false l h = let p = ltb-true i 44 k in let q = leb-false i 43 l in omega arith
     cases true e false k v l h = absurd (let z : _≡_ {A = ℕ} 0 1 = cc in omega arith)
 
-pub silent-bytes-met : (readCard noisy-R 2 ≡ given (settingsOf quiet-R)) × ((train : ℕ) (xs : List Sample) → rideOf noisy-R 2 train xs ≡ rideOf quiet-R 2 train xs)
+pub silent-bytes-met :
+    (readCard noisy-R 2 ≡ given (settingsOf quiet-R))
+    × ((train : ℕ) (xs : List Sample) → rideOf noisy-R 2 train xs ≡ rideOf quiet-R 2 train xs)
 unfolding card
 silent-bytes-met =
     silent-bytes quiet-R noisy-R 2 (settingsOf quiet-R) refl (lit≤ tt)
@@ -60,7 +62,9 @@ silent-bytes-met =
 
 pub versions-met : (train : ℕ) (xs : List Sample) → rideOf card-P 1 train xs ≡ rideOf card-P2 2 train xs
 unfolding card
-versions-met = versions-silent card-P card-P2 1 2 (settingsOf card-P) (settingsOf card-P2) refl refl refl refl (behind-same 0x00 0x27 0x01 0x00 0x2C 0x02 settings-P [] (0x00 ∷ 0x00 ∷ 0x00 ∷ 0x00 ∷ 0x00 ∷ [])) refl
+versions-met =
+    versions-silent card-P card-P2 1 2 (settingsOf card-P) (settingsOf card-P2) refl refl refl refl
+    (behind-same 0x00 0x27 0x01 0x00 0x2C 0x02 settings-P [] (0x00 ∷ 0x00 ∷ 0x00 ∷ 0x00 ∷ 0x00 ∷ [])) refl
 
 -- ---- 3c: card R with all functions, and with the reminder off
 

@@ -34,12 +34,16 @@ abbrev R : List ℕ
 R = card-R (0x0F ∷ 0x00 ∷ 0xC8 ∷ 0x01 ∷ 0xF4 ∷ [])
 
 -- bit 0: beacon 4 at standstill sets protected, which turns unprotected at once
-pub crossing-parts : Parting R (card-R (0x0E ∷ 0x00 ∷ 0xC8 ∷ 0x01 ∷ 0xF4 ∷ [])) (conv 0 0 0 ∷ conv 0 4 0 ∷ []) (shows 14000 0 0 ∷ []) (answer 14000 0 0 2 false) (shows 14000 0 0)
+pub crossing-parts :
+    Parting R (card-R (0x0E ∷ 0x00 ∷ 0xC8 ∷ 0x01 ∷ 0xF4 ∷ [])) (conv 0 0 0 ∷ conv 0 4 0 ∷ [])
+    (shows 14000 0 0 ∷ []) (answer 14000 0 0 2 false) (shows 14000 0 0)
 unfolding definitions
 crossing-parts = record { speaks-at = refl; answers-a = refl; answers-b = refl; part = λ e. omega (arith, ap (numberOf (λ a. a .icon)) e) }
 
 -- bit 1: beacon 7 again, after 40 cm
-pub zone-parts : Parting R (card-R (0x0D ∷ 0x00 ∷ 0xC8 ∷ 0x01 ∷ 0xF4 ∷ [])) (conv 20 7 0 ∷ conv 20 0 0 ∷ conv 20 7 0 ∷ []) (shows 5000 16 0 ∷ shows 5000 16 0 ∷ []) (shows 1000 0 0) (shows 5000 16 0)
+pub zone-parts :
+    Parting R (card-R (0x0D ∷ 0x00 ∷ 0xC8 ∷ 0x01 ∷ 0xF4 ∷ [])) (conv 20 7 0 ∷ conv 20 0 0 ∷ conv 20 7 0 ∷ [])
+    (shows 5000 16 0 ∷ shows 5000 16 0 ∷ []) (shows 1000 0 0) (shows 5000 16 0)
 unfolding definitions
 zone-parts = record { speaks-at = refl; answers-a = refl; answers-b = refl; part = λ e. omega (arith, ap (numberOf (λ a. a .speed)) e) }
 
@@ -51,6 +55,8 @@ unfolding definitions
 reminder-parts = record { speaks-at = refl; answers-a = refl; answers-b = refl; part = λ e. omega (arith, ap (numberOf (λ a. a .lamps)) e) }
 
 -- bit 3: beacon 10 in BTS
-pub bts-parts : Parting R (card-R (0x07 ∷ 0x00 ∷ 0xC8 ∷ 0x01 ∷ 0xF4 ∷ [])) (bts 0 0 0 ∷ bts 0 10 0 ∷ []) (shows 10000 0 0 ∷ []) (answer 10000 64 0 0 true) (shows 10000 0 0)
+pub bts-parts :
+    Parting R (card-R (0x07 ∷ 0x00 ∷ 0xC8 ∷ 0x01 ∷ 0xF4 ∷ [])) (bts 0 0 0 ∷ bts 0 10 0 ∷ [])
+    (shows 10000 0 0 ∷ []) (answer 10000 64 0 0 true) (shows 10000 0 0)
 unfolding definitions
 bts-parts = record { speaks-at = refl; answers-a = refl; answers-b = refl; part = λ e. omega (arith, ap (numberOf (λ a. a .lamps)) e) }

@@ -5,6 +5,7 @@ use mathlib.Core.Bool.{true, false}
 use mathlib.Core.List.{List, [], _∷_, _++_}
 use mathlib.Core.Path.{refl}
 use Rattle.leaf.specs.Answers.{Answer, given}
+use Rattle.card.specs.declared.Row.{Row}
 use Rattle.card.specs.Lines.{Line, line, Holds}
 use Rattle.card.proofs.Examples.{cardA, cardLines}
 use Rattle.curve.specs.Curve.{rowSpeed}
@@ -47,7 +48,8 @@ crossingLines =
     ∷ line (Answer Outcome) (endOf (openSession (cardA-with 24 1 (cardA .limit)) 6) (conv 463 3 0 ∷ []) (conv 463 0 32)) (given (answer 15500 0 0 1 false))
     ∷ []
 
--- "* Beacon 7 again at 799,999 zone, 800,000 none." Row 4 main at that distance from its reading less this sample's 2,000, function 1.
+-- "* Beacon 7 again at 799,999 zone, 800,000 none." With function 1, a session in its ranges whose row 4 is main, at that distance less this
+-- sample's 2,000 from its reading: 799,999 is a prime, which no tick length's pulses add up to.
 abbrev near : ℕ → Session
 near distance = record { settings = cardA-with 100 2 (cardA .limit); train = 6; desk = withMain (mainOf BeforeStop 9 distance) freshDesk }
 
@@ -60,14 +62,19 @@ zoneLines =
 -- "* Increase: type 2 gives 90, type 6 gives 100." Override, beacon 8, increase.
 abbrev increaseLines : List Line
 increaseLines =
-    line (Answer (List Outcome)) (runFrom (openSession cardA 2) (conv 0 0 128 ∷ conv 0 8 0 ∷ conv 0 0 256 ∷ [])) (given (shows 9000 128 0 ∷ shows 4000 256 0 ∷ shows 9000 0 0 ∷ []))
-    ∷ line (Answer (List Outcome)) (runFrom (openSession cardA 6) (conv 0 0 128 ∷ conv 0 8 0 ∷ conv 0 0 256 ∷ [])) (given (shows 10000 128 0 ∷ shows 4000 256 0 ∷ shows 10000 0 0 ∷ []))
+    line (Answer (List Outcome)) (runFrom (openSession cardA 2) (conv 0 0 128 ∷ conv 0 8 0 ∷ conv 0 0 256 ∷ []))
+    (given (shows 9000 128 0 ∷ shows 4000 256 0 ∷ shows 9000 0 0 ∷ []))
+    ∷ line (Answer (List Outcome)) (runFrom (openSession cardA 6) (conv 0 0 128 ∷ conv 0 8 0 ∷ conv 0 0 256 ∷ []))
+    (given (shows 10000 128 0 ∷ shows 4000 256 0 ∷ shows 10000 0 0 ∷ []))
     ∷ []
 
 -- "* Limit final 60, type 2: 60, 80, 90, 90." Beacon 10, then increase three times; the row is at its final at once.
+abbrev flat : Row
+flat = record { initial = 60; last = 60; delay = 0; drop = 1 }
+
 abbrev limitLines : List Line
 limitLines =
-    line (Answer (List Outcome)) (runFrom (openSession (cardA-with 100 0 (record { initial = 60; last = 60; delay = 0; drop = 1 })) 2) (conv 0 10 0 ∷ conv 0 0 256 ∷ conv 0 0 256 ∷ conv 0 0 256 ∷ []))
+    line (Answer (List Outcome)) (runFrom (openSession (cardA-with 100 0 flat) 2) (conv 0 10 0 ∷ conv 0 0 256 ∷ conv 0 0 256 ∷ conv 0 0 256 ∷ []))
     (given (answer 6000 64 0 0 true ∷ answer 8000 64 0 0 true ∷ answer 9000 64 0 0 true ∷ answer 9000 64 0 0 true ∷ []))
     ∷ []
 
