@@ -1,0 +1,16 @@
+pub mod Runs
+pub mod Speaks
+pub mod Kept
+pub mod Apart
+pub mod Alike
+pub mod Cards
+pub mod Refused
+pub mod Demand1
+pub mod Demand2
+pub mod Demand3
+pub mod Computes
+pub mod Rides
+pub mod Met
+pub mod Starred
+pub mod Parting
+pub mod ShutOut
