@@ -1,0 +1,153 @@
+-- Document 01, "The sample": "every session we make is inside."
+use Prim.Native.Nat.{ℕ, _+_, _*_, _≤_, min}
+use native.Mathlib.Omega.{arith}
+use mathlib.Core.Path.{_≡_, refl}
+use mathlib.Core.Bool.{Bool, true, false, _&&_}
+use mathlib.Core.List.{List, [], _∷_}
+use lib.Dec.{eqb, leb}
+use borrow.Author.Tests.{eqb-true, leb-true}
+use Rattle.leaf.specs.Choosing.{pick}
+use Rattle.leaf.specs.Numbers.{exceedsOf}
+use Rattle.leaf.specs.Checks.{none-bad}
+use Rattle.leaf.specs.Answers.{Answer, given, refused, refusedAt}
+use Rattle.card.specs.declared.Settings.{Settings}
+use Rattle.card.specs.Ranges.{checkSettings, inRange}
+use Rattle.card.proofs.Accepted.{in-range-only}
+use Rattle.desk.specs.declared.state.Desk.{Desk}
+use Rattle.sample.specs.declared.step.Sample.{Sample}
+use Rattle.sample.specs.Speed.{crossingTurned, supervisedOf}
+use Rattle.sample.specs.Brake.{lowest, standingCause, braked}
+use Rattle.sample.specs.Sample.{functionOn, movedOf, judgedOf, stepOf}
+use Rattle.session.specs.declared.Session.{Session}
+use Rattle.leaf.specs.declared.Refusal.the-variants.{Number}
+use Rattle.session.specs.declared.Outcome.the-variants as outcome
+use Rattle.session.specs.Types.{typeSpeed, typeAllowed}
+use Rattle.session.specs.Session.{freshSession, openedAfter, openSession, insideOf, sampleChecks, refusedBy, carried, ranOf, sampleOf}
+use Rattle.laws.specs.Ranges.{DeskIn, Inside, and-split, type-only, inside-only, inside-when}
+use Rattle.laws.specs.Parts.{pick-low, crossing-turned}
+use Rattle.laws.specs.Stages.{TurnIn, set-cause, set-crossing, fresh-in, begun-in}
+use Rattle.laws.specs.Presses.{presses-in}
+use Rattle.laws.specs.Readings.{beacon-in}
+
+-- ---- causes
+
+lowest-in : (a b : ℕ) → a ≤ 5 → b ≤ 5 → lowest a b ≤ 5
+unfolding lowest
+lowest-in a b p q = pick-low 5 (eqb a 0) q (pick-low 5 (eqb b 0) {x = a} {y = min a b} p (omega arith))
+
+standing-in : (before arose : ℕ) (rearm : Bool) → before ≤ 5 → arose ≤ 5 → standingCause before arose rearm ≤ 5
+unfolding standingCause
+standing-in before arose rearm p q =
+    pick-low 5 (eqb arose 0) (pick-low 5 rearm {x = 0} {y = before} (omega arith) p) (pick-low 5 (eqb before 0) {x = arose} {y = before} q p)
+
+-- ---- speed and brake
+
+turned-in : (m : ℕ) (d : Desk) → DeskIn d → DeskIn (crossingTurned m d)
+unfolding crossingTurned
+turned-in m d h = set-crossing h _ (crossing-turned m (d .crossing) (h .crossing))
+
+braked-in : (arose : ℕ) (rearm : Bool) (d : Desk) → arose ≤ 5 → DeskIn d → DeskIn (braked arose rearm d)
+unfolding braked
+braked-in arose rearm d a h = set-cause h _ (standing-in (d .cause) arose rearm (h .cause) a)
+
+-- ---- one sample of the desk
+
+pub moved-in : (s : Settings) (top : ℕ) (x : Sample) (d : Desk) → x .beacon ≤ 11 → DeskIn d → TurnIn (movedOf s top x d)
+unfolding movedOf
+moved-in s top x d b h =
+    let first = begun-in (x .bts) (x .m) (functionOn s 4) (s .x) (s .y) d h in
+    let read = beacon-in (x .beacon) (functionOn s 1) (functionOn s 2) (functionOn s 8) _ b (presses-in (x .buttons) (x .m) (s .limit) top _ (first .desk)) in
+    record { desk = read .desk; cause = lowest-in _ _ (first .cause) (read .cause) }
+
+-- "cause 0..5": what arises in a sample is one of them, or none
+pub judged-arose : (s : Settings) (top : ℕ) (x : Sample) (cause : ℕ) (d : Desk) → cause ≤ 5 → judgedOf s top x cause d .arose ≤ 5
+unfolding judgedOf
+judged-arose s top x cause d c =
+    let speed = supervisedOf s top (crossingTurned (x .m) d) in
+    lowest-in cause _ c (pick-low 5 (exceedsOf (x .m) (speed + 500)) {x = 5} {y = 0} (omega arith) (omega arith))
+
+judged-in : (s : Settings) (top : ℕ) (x : Sample) (cause : ℕ) (d : Desk) → cause ≤ 5 → DeskIn d → DeskIn (judgedOf s top x cause d .desk)
+unfolding judgedOf
+judged-in s top x cause d c h = braked-in _ _ _ (judged-arose s top x cause d c) (turned-in (x .m) d h)
+
+pub step-in : (s : Settings) (top : ℕ) (x : Sample) (d : Desk) → x .beacon ≤ 11 → DeskIn d → DeskIn (stepOf s top x d .desk)
+unfolding stepOf
+step-in s top x d b h = let t = moved-in s top x d b h in judged-in s top x _ _ (t .cause) (t .desk)
+
+-- ---- opening
+
+-- every session that opening gives is inside
+pub opened-inside : (settings : Settings) (train : ℕ) (s : Session) → openSession settings train ≡ given s → insideOf s ≡ true
+unfolding openSession
+opened-inside settings train s h = judged (checkSettings 2 settings) refl h
+  where
+    typed : (t : Bool) → typeAllowed train (settings .vmax) ≡ t → checkSettings 2 settings ≡ inRange → pick t (given (freshSession settings train)) (refused 7) ≡ given s → insideOf s ≡ true
+    typed true e c h =
+        let t = type-only train (settings .vmax) e in
+        let same : freshSession settings train ≡ s = cc in
+        let i : Inside (freshSession settings train) = record { settings = in-range-only 2 settings c; train-low = t .0; train-high = t .1 .0; type-speed = t .1 .1; desk = fresh-in } in
+        rw (← same) (inside-when (freshSession settings train) i)
+    typed false e c h = let z : _≡_ {A = ℕ} 0 1 = cc in absurd (omega arith)
+
+    judged : (a : Answer Unit) → checkSettings 2 settings ≡ a → openedAfter a settings train ≡ given s → insideOf s ≡ true
+    judged (given u) c h = typed (typeAllowed train (settings .vmax)) refl c h
+    judged (refused n) c h = let z : _≡_ {A = ℕ} 0 1 = cc in absurd (omega arith)
+    judged (refusedAt n place) c h = let z : _≡_ {A = ℕ} 0 1 = cc in absurd (omega arith)
+
+-- ---- a sample
+
+-- an accepted sample's beacon is 0..11
+accepted-beacon : (s : Session) (pulses beacon buttons mode : ℕ) → refusedBy s pulses beacon buttons mode ≡ 0 → beacon ≤ 11
+unfolding refusedBy
+accepted-beacon s pulses beacon buttons mode h =
+    let f = none-bad 0 (sampleChecks s pulses beacon buttons mode) tt h .1 in
+    let a = and-split (leb beacon 11 && leb buttons 2047 && leb 1 mode) (leb mode 2) (f .1 .0) in
+    let b = and-split (leb beacon 11 && leb buttons 2047) (leb 1 mode) (a .0) in
+    leb-true beacon 11 (and-split (leb beacon 11) (leb buttons 2047) (b .0) .0)
+
+ran-inside : (x : Sample) (s : Session) → x .beacon ≤ 11 → insideOf s ≡ true → insideOf (ranOf x s .session) ≡ true
+unfolding ranOf
+ran-inside x s b h =
+    let i = inside-only s h in
+    inside-when _ (record {
+      settings = i .settings;
+      train-low = i .train-low;
+      train-high = i .train-high;
+      type-speed = i .type-speed;
+      desk = step-in (s .settings) (typeSpeed (s .train) * 100) x (s .desk) b (i .desk);
+    })
+
+-- every session that a sample hands back is inside, where the one handed in is; a refused sample hands that one back
+pub sample-inside : (s : Session) (pulses beacon buttons mode : ℕ) → insideOf s ≡ true → insideOf (sampleOf s pulses beacon buttons mode .session) ≡ true
+unfolding sampleOf
+sample-inside s pulses beacon buttons mode h = cases (eqb (refusedBy s pulses beacon buttons mode) 0) refl
+  where
+    n : ℕ
+    n = refusedBy s pulses beacon buttons mode
+
+    cases : (t : Bool) → eqb n 0 ≡ t → insideOf (pick t (ranOf (carried s pulses beacon buttons mode) s) (record { session = s; outcome = outcome.Refused (Number n) }) .session) ≡ true
+    cases true e = ran-inside (carried s pulses beacon buttons mode) s (accepted-beacon s pulses beacon buttons mode (eqb-true n 0 e)) h
+    cases false e = h
+
+-- ---- any list of samples
+
+-- pulses, beacon, buttons and mode of one sample, accepted or not
+pub record Given : Type 0 where
+  pub pulses : ℕ
+  pub beacon : ℕ
+  pub buttons : ℕ
+  pub mode : ℕ
+
+-- the session after a list of samples
+pub after : Session → List Given → Session
+after s [] = s
+after s (x ∷ rest) = after (sampleOf s (x .pulses) (x .beacon) (x .buttons) (x .mode) .session) rest
+
+pub after-inside : (s : Session) (xs : List Given) → insideOf s ≡ true → insideOf (after s xs) ≡ true
+unfolding after
+after-inside s [] h = h
+after-inside s (x ∷ rest) h = after-inside _ rest (sample-inside s (x .pulses) (x .beacon) (x .buttons) (x .mode) h)
+
+-- "every session we make is inside": from opening on, after any samples
+pub always-inside : (settings : Settings) (train : ℕ) (s : Session) (xs : List Given) → openSession settings train ≡ given s → insideOf (after s xs) ≡ true
+always-inside settings train s xs h = after-inside s xs (opened-inside settings train s h)

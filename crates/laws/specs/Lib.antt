@@ -1,0 +1,6 @@
+pub mod Ranges
+pub mod Parts
+pub mod Stages
+pub mod Presses
+pub mod Readings
+pub mod Inside
