@@ -4,3 +4,4 @@ pub mod Stages
 pub mod Presses
 pub mod Readings
 pub mod Inside
+pub mod OutOfRange
