@@ -139,7 +139,7 @@ pub record Given : Type 0 where
   pub mode : ℕ
 
 -- the session after a list of samples
-pub after : Session → List Given → Session
+unfoldable pub after : Session → List Given → Session
 after s [] = s
 after s (x ∷ rest) = after (sampleOf s (x .pulses) (x .beacon) (x .buttons) (x .mode) .session) rest
 

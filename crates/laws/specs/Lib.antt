@@ -5,3 +5,5 @@ pub mod Presses
 pub mod Readings
 pub mod Inside
 pub mod OutOfRange
+pub mod Windows
+pub mod Once
