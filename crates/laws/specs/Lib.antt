@@ -7,3 +7,4 @@ pub mod Inside
 pub mod OutOfRange
 pub mod Windows
 pub mod Once
+pub mod Speed
