@@ -1,5 +1,5 @@
 -- Document 01, "The sample": "every session we make is inside."
-use Prim.Native.Nat.{ℕ, _+_, _*_, _≤_, min}
+use Prim.Native.Nat.{ℕ, _*_, _≤_}
 use native.Mathlib.Omega.{arith}
 use mathlib.Core.Path.{_≡_, refl}
 use mathlib.Core.Bool.{Bool, true, false, _&&_}
@@ -7,7 +7,6 @@ use mathlib.Core.List.{List, [], _∷_}
 use lib.Dec.{eqb, leb}
 use borrow.Author.Tests.{eqb-true, leb-true}
 use Rattle.leaf.specs.Choosing.{pick}
-use Rattle.leaf.specs.Numbers.{exceedsOf}
 use Rattle.leaf.specs.Checks.{none-bad}
 use Rattle.leaf.specs.Answers.{Answer, given, refused, refusedAt}
 use Rattle.card.specs.declared.Settings.{Settings}
@@ -15,9 +14,9 @@ use Rattle.card.specs.Ranges.{checkSettings, inRange}
 use Rattle.card.proofs.Accepted.{in-range-only}
 use Rattle.desk.specs.declared.state.Desk.{Desk}
 use Rattle.sample.specs.declared.step.Sample.{Sample}
-use Rattle.sample.specs.Speed.{crossingTurned, supervisedOf}
-use Rattle.sample.specs.Brake.{lowest, standingCause, braked}
-use Rattle.sample.specs.Sample.{functionOn, movedOf, judgedOf, stepOf}
+use Rattle.sample.specs.Speed.{crossingTurned}
+use Rattle.sample.specs.Brake.{standingCause, braked}
+use Rattle.sample.specs.Sample.{movedOf, judgedOf, stepOf}
 use Rattle.session.specs.declared.Session.{Session}
 use Rattle.leaf.specs.declared.Refusal.the-variants.{Number}
 use Rattle.session.specs.declared.Outcome.the-variants as outcome
@@ -25,15 +24,12 @@ use Rattle.session.specs.Types.{typeSpeed, typeAllowed}
 use Rattle.session.specs.Session.{freshSession, openedAfter, openSession, insideOf, sampleChecks, refusedBy, carried, ranOf, sampleOf}
 use Rattle.laws.specs.Ranges.{DeskIn, Inside, and-split, type-only, inside-only, inside-when}
 use Rattle.laws.specs.Parts.{pick-low, crossing-turned}
-use Rattle.laws.specs.Stages.{TurnIn, set-cause, set-crossing, fresh-in, begun-in}
+use Rattle.laws.specs.Stages.{set-cause, set-crossing, fresh-in, begun-in}
 use Rattle.laws.specs.Presses.{presses-in}
 use Rattle.laws.specs.Readings.{beacon-in}
+use Rattle.laws.specs.Causes.{arose-in}
 
 -- ---- causes
-
-lowest-in : (a b : ℕ) → a ≤ 5 → b ≤ 5 → lowest a b ≤ 5
-unfolding lowest
-lowest-in a b p q = pick-low 5 (eqb a 0) q (pick-low 5 (eqb b 0) {x = a} {y = min a b} p (omega arith))
 
 standing-in : (before arose : ℕ) (rearm : Bool) → before ≤ 5 → arose ≤ 5 → standingCause before arose rearm ≤ 5
 unfolding standingCause
@@ -52,27 +48,14 @@ braked-in arose rearm d a h = set-cause h _ (standing-in (d .cause) arose rearm 
 
 -- ---- one sample of the desk
 
-pub moved-in : (s : Settings) (top : ℕ) (x : Sample) (d : Desk) → x .beacon ≤ 11 → DeskIn d → TurnIn (movedOf s top x d)
+moved-in : (s : Settings) (top : ℕ) (x : Sample) (d : Desk) → x .beacon ≤ 11 → DeskIn d → DeskIn (movedOf s top x d .desk)
 unfolding movedOf
 moved-in s top x d b h =
-    let first = begun-in (x .bts) (x .m) (functionOn s 4) (s .x) (s .y) d h in
-    let read = beacon-in (x .beacon) (functionOn s 1) (functionOn s 2) (functionOn s 8) _ b (presses-in (x .buttons) (x .m) (s .limit) top _ (first .desk)) in
-    record { desk = read .desk; cause = lowest-in _ _ (first .cause) (read .cause) }
-
--- "cause 0..5": what arises in a sample is one of them, or none
-pub judged-arose : (s : Settings) (top : ℕ) (x : Sample) (cause : ℕ) (d : Desk) → cause ≤ 5 → judgedOf s top x cause d .arose ≤ 5
-unfolding judgedOf
-judged-arose s top x cause d c =
-    let speed = supervisedOf s top (crossingTurned (x .m) d) in
-    lowest-in cause _ c (pick-low 5 (exceedsOf (x .m) (speed + 500)) {x = 5} {y = 0} (omega arith) (omega arith))
-
-judged-in : (s : Settings) (top : ℕ) (x : Sample) (cause : ℕ) (d : Desk) → cause ≤ 5 → DeskIn d → DeskIn (judgedOf s top x cause d .desk)
-unfolding judgedOf
-judged-in s top x cause d c h = braked-in _ _ _ (judged-arose s top x cause d c) (turned-in (x .m) d h)
+    beacon-in (x .beacon) _ _ _ _ b (presses-in (x .buttons) (x .m) (s .limit) top _ (begun-in (x .bts) (x .m) _ (s .x) (s .y) d h))
 
 pub step-in : (s : Settings) (top : ℕ) (x : Sample) (d : Desk) → x .beacon ≤ 11 → DeskIn d → DeskIn (stepOf s top x d .desk)
-unfolding stepOf
-step-in s top x d b h = let t = moved-in s top x d b h in judged-in s top x _ _ (t .cause) (t .desk)
+unfolding stepOf judgedOf
+step-in s top x d b h = braked-in _ _ _ (arose-in s top x d) (turned-in (x .m) _ (moved-in s top x d b h))
 
 -- ---- opening
 

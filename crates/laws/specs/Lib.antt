@@ -8,3 +8,6 @@ pub mod OutOfRange
 pub mod Windows
 pub mod Once
 pub mod Speed
+pub mod Causes
+pub mod Brake
+pub mod NoToy

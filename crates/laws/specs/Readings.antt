@@ -1,7 +1,7 @@
 -- "beacon": a reading leaves the desk inside its ranges; its code, 0..11 in an accepted sample, is remembered.
 use Prim.Native.Nat.{ℕ, _≤_}
 use native.Mathlib.Omega.{arith}
-use mathlib.Core.Bool.{Bool, true, false, _&&_, not}
+use mathlib.Core.Bool.{Bool, true, false, _&&_}
 use lib.Dec.{eqb}
 use Rattle.signals.specs.declared.window.Waits.{Waits}
 use Rattle.signals.specs.declared.window.Waits.the-variants as waits
@@ -11,10 +11,10 @@ use Rattle.signals.specs.declared.stop.Phase.the-variants.{Off, Due}
 use Rattle.signals.specs.Windows.{missTime, zoneMiss}
 use Rattle.sides.specs.declared.limit.Limit.{Limit}
 use Rattle.desk.specs.declared.state.Desk.{Desk}
-use Rattle.beacons.specs.Beacons.{readsOf, mainOpened, sideOpened, reading1, readingRow, optionOffered, reading3, reading4, zoneOr, zoneMet, reading7, remindedAfter, stopped, reading8, reading9, readingLimit, readingOf, readIf, beaconTaken}
+use Rattle.beacons.specs.Beacons.{mainOpened, sideOpened, reading1, readingRow, optionOffered, reading3, reading4, zoneOr, zoneMet, reading7, remindedAfter, stopped, reading8, reading9, readingLimit, readingOf, readIf, beaconTaken}
 use Rattle.laws.specs.Ranges.{ReminderIn, DeskIn}
-use Rattle.laws.specs.Parts.{pick-has, pick-low, main-fresh, window-closed, window-opened, time-left, alongside-none, override-off, reminder-fresh, crossing-protected, option-now}
-use Rattle.laws.specs.Stages.{TurnIn, set-code, set-main, set-window, set-side, set-alongside, set-armed, set-reminder, set-crossing, set-option, taken-fresh, limit-in, main-counts-in, side-counts-in}
+use Rattle.laws.specs.Parts.{pick-has, main-fresh, window-closed, window-opened, time-left, alongside-none, override-off, reminder-fresh, crossing-protected, option-now}
+use Rattle.laws.specs.Stages.{set-code, set-main, set-window, set-side, set-alongside, set-armed, set-reminder, set-crossing, set-option, taken-fresh, limit-in, main-counts-in, side-counts-in}
 
 -- ---- windows
 
@@ -98,10 +98,6 @@ unfolding readIf
 read-if-in true code f g d h = reading-in code f g d h
 read-if-in false code f g d h = h
 
-pub beacon-in : (code : ℕ) (f0 f1 f3 : Bool) (d : Desk) → code ≤ 11 → DeskIn d → TurnIn (beaconTaken code f0 f1 f3 d)
+pub beacon-in : (code : ℕ) (f0 f1 f3 : Bool) (d : Desk) → code ≤ 11 → DeskIn d → DeskIn (beaconTaken code f0 f1 f3 d .desk)
 unfolding beaconTaken
-beacon-in code f0 f1 f3 d c h =
-    record {
-      desk = read-if-in _ code f0 f1 _ (set-code h code c);
-      cause = pick-low 5 (readsOf code f3 (d .bts) (d .code) && eqb code 8 && not (d .armed .armed)) {x = 4} {y = 0} (omega arith) (omega arith);
-    }
+beacon-in code f0 f1 f3 d c h = read-if-in _ code f0 f1 _ (set-code h code c)

@@ -1,4 +1,4 @@
--- Each step of a sample leaves the desk inside its ranges, and gives a cause 0..5.
+-- Setting a member leaves the desk inside its ranges, and so does the first step of a sample: mode, ages and misses.
 use Prim.Native.Nat.{ℕ, _≤_}
 use native.Mathlib.Omega.{arith}
 use mathlib.Core.Bool.{Bool, true, false}
@@ -10,17 +10,16 @@ use Rattle.signals.specs.declared.stop.Alongside.{Alongside}
 use Rattle.signals.specs.declared.stop.Override.{Override}
 use Rattle.signals.specs.declared.stop.Phase.the-variants.{Off}
 use Rattle.signals.specs.declared.stop.Reminder.{Reminder}
-use Rattle.signals.specs.Windows.{asksOf, missedOf}
-use Rattle.signals.specs.Stop.{reminderMissed}
+use Rattle.signals.specs.Windows.{asksOf}
 use Rattle.sides.specs.declared.crossing.Crossing.{Crossing}
 use Rattle.sides.specs.declared.crossing.CrossingOption.{CrossingOption}
 use Rattle.sides.specs.declared.limit.Limit.{Limit}
 use Rattle.desk.specs.declared.state.Desk.{Desk}
 use Rattle.desk.specs.declared.clock.Turn.{Turn}
 use Rattle.desk.specs.State.{withCode, withCause, withMain, withWindow, withSide, withAlongside, withArmed, withReminder, withCrossing, withOption, withLimit, takenOver, crossingSet, limitNow, freshDesk, restingOf, modeChanged}
-use Rattle.desk.specs.Clock.{sameMode, deskOlder, reminded, mainCounts, sideCounts, mainMissed, sideMissed, missCause, advanced, begun}
+use Rattle.desk.specs.Clock.{sameMode, deskOlder, reminded, mainCounts, sideCounts, mainMissed, sideMissed, advanced, begun}
 use Rattle.laws.specs.Ranges.{MainIn, WindowIn, AlongsideIn, OverrideIn, ReminderIn, CrossingIn, OptionIn, LimitIn, DeskIn}
-use Rattle.laws.specs.Parts.{pick-has, pick-low, main-of, main-fresh, main-older, window-closed, window-older, alongside-none, alongside-older, alongside-after, override-off, override-older, reminder-fresh, reminder-older, reminder-reminded, crossing-none, crossing-older, crossing-unprotected, option-none, option-older, limit-none, limit-older, limit-set}
+use Rattle.laws.specs.Parts.{pick-has, main-of, main-fresh, main-older, window-closed, window-older, alongside-none, alongside-older, alongside-after, override-off, override-older, reminder-fresh, reminder-older, reminder-reminded, crossing-none, crossing-older, crossing-unprotected, option-none, option-older, limit-none, limit-older, limit-set}
 
 -- ---- one member changed
 
@@ -154,26 +153,12 @@ unfolding sideMissed
 side-missed-in true d h = set-side (side-counts-in d h) _ window-closed
 side-missed-in false d h = h
 
--- a turn: the desk, and a cause 0..5
-pub record TurnIn (t : Turn) : Type 0 where
-  pub desk : DeskIn (t .desk)
-  pub cause : t .cause ≤ 5
-
-miss-cause : (a b c : Bool) → missCause a b c ≤ 5
-miss-cause a b c =
-    pick-low 5 a {x = 1} (omega arith) (pick-low 5 b {x = 2} (omega arith) (pick-low 5 c {x = 3} {y = 0} (omega arith) (omega arith)))
-
-advanced-in : (m : ℕ) (f : Bool) (x y : ℕ) (d : Desk) → DeskIn d → TurnIn (advanced m f x y d)
+advanced-in : (m : ℕ) (f : Bool) (x y : ℕ) (d : Desk) → DeskIn d → DeskIn (advanced m f x y d .desk)
 unfolding advanced
-advanced-in m f x y d h =
-    let old = deskOlder m d in
-    record {
-      desk = side-missed-in (missedOf (old .side)) _ (main-missed-in (missedOf (old .window)) _ (reminded-in f x y old (older-in m d h)));
-      cause = miss-cause (missedOf (old .window)) (missedOf (old .side)) (reminderMissed (old .reminder));
-    }
+advanced-in m f x y d h = side-missed-in _ _ (main-missed-in _ _ (reminded-in f x y (deskOlder m d) (older-in m d h)))
 
-pub begun-in : (bts : Bool) (m : ℕ) (f : Bool) (x y : ℕ) (d : Desk) → DeskIn d → TurnIn (begun bts m f x y d)
+pub begun-in : (bts : Bool) (m : ℕ) (f : Bool) (x y : ℕ) (d : Desk) → DeskIn d → DeskIn (begun bts m f x y d .desk)
 unfolding begun
 begun-in bts m f x y d h =
-    pick-has TurnIn (sameMode (d .bts) bts) (advanced-in m f x y d h)
-    (record { desk = mode-in bts d h; cause = omega arith })
+    pick-has (λ (t : Turn). DeskIn (t .desk)) (sameMode (d .bts) bts) {x = advanced m f x y d} {y = record { desk = modeChanged bts d; cause = 0 }}
+    (advanced-in m f x y d h) (mode-in bts d h)
