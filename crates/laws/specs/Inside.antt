@@ -24,9 +24,8 @@ use Rattle.session.specs.Types.{typeSpeed, typeAllowed}
 use Rattle.session.specs.Session.{freshSession, openedAfter, openSession, insideOf, sampleChecks, refusedBy, carried, ranOf, sampleOf}
 use Rattle.laws.specs.Ranges.{DeskIn, Inside, and-split, type-only, inside-only, inside-when}
 use Rattle.laws.specs.Parts.{pick-low, crossing-turned}
-use Rattle.laws.specs.Stages.{set-cause, set-crossing, fresh-in, begun-in}
-use Rattle.laws.specs.Presses.{presses-in}
-use Rattle.laws.specs.Readings.{beacon-in}
+use Rattle.laws.specs.Walk.{moved-keeps}
+use Rattle.laws.specs.KeepsRanges.{set-code, set-cause, set-crossing, fresh-in, ranges-kept}
 use Rattle.laws.specs.Causes.{arose-in}
 
 -- ---- causes
@@ -49,9 +48,7 @@ braked-in arose rearm d a h = set-cause h _ (standing-in (d .cause) arose rearm 
 -- ---- one sample of the desk
 
 moved-in : (s : Settings) (top : ℕ) (x : Sample) (d : Desk) → x .beacon ≤ 11 → DeskIn d → DeskIn (movedOf s top x d .desk)
-unfolding movedOf
-moved-in s top x d b h =
-    beacon-in (x .beacon) _ _ _ _ b (presses-in (x .buttons) (x .m) (s .limit) top _ (begun-in (x .bts) (x .m) _ (s .x) (s .y) d h))
+moved-in s top x d b h = moved-keeps ranges-kept s top x d (λ e i. set-code i (x .beacon) b) h
 
 pub step-in : (s : Settings) (top : ℕ) (x : Sample) (d : Desk) → x .beacon ≤ 11 → DeskIn d → DeskIn (stepOf s top x d .desk)
 unfolding stepOf judgedOf

@@ -1,25 +1,27 @@
--- Setting a member leaves the desk inside its ranges, and so does the first step of a sample: mode, ages and misses.
+-- Whatever happens to a desk inside its ranges leaves it inside them.
 use Prim.Native.Nat.{ℕ, _≤_}
 use native.Mathlib.Omega.{arith}
 use mathlib.Core.Bool.{Bool, true, false}
+use Rattle.signals.specs.declared.window.Waits.the-variants as waits
 use Rattle.signals.specs.declared.window.Window.{Window}
-use Rattle.signals.specs.declared.control.MainKind.{MainKind}
 use Rattle.signals.specs.declared.control.MainKind.the-variants as main
 use Rattle.signals.specs.declared.control.Main.{Main}
 use Rattle.signals.specs.declared.stop.Alongside.{Alongside}
 use Rattle.signals.specs.declared.stop.Override.{Override}
-use Rattle.signals.specs.declared.stop.Phase.the-variants.{Off}
+use Rattle.signals.specs.declared.stop.Phase.the-variants.{Off, Due}
 use Rattle.signals.specs.declared.stop.Reminder.{Reminder}
-use Rattle.signals.specs.Windows.{asksOf}
+use Rattle.signals.specs.Windows.{missTime, zoneMiss}
 use Rattle.sides.specs.declared.crossing.Crossing.{Crossing}
 use Rattle.sides.specs.declared.crossing.CrossingOption.{CrossingOption}
 use Rattle.sides.specs.declared.limit.Limit.{Limit}
 use Rattle.desk.specs.declared.state.Desk.{Desk}
-use Rattle.desk.specs.declared.clock.Turn.{Turn}
-use Rattle.desk.specs.State.{withCode, withCause, withMain, withWindow, withSide, withAlongside, withArmed, withReminder, withCrossing, withOption, withLimit, takenOver, crossingSet, limitNow, freshDesk, restingOf, modeChanged}
-use Rattle.desk.specs.Clock.{sameMode, deskOlder, reminded, mainCounts, sideCounts, mainMissed, sideMissed, advanced, begun}
+use Rattle.desk.specs.State.{withBts, withCode, withCause, withMain, withWindow, withSide, withAlongside, withArmed, withReminder, withCrossing, withOption, withLimit, takenOver, crossingSet, limitNow, freshDesk, restingOf, modeChanged}
+use Rattle.desk.specs.Clock.{deskOlder, reminded}
+use Rattle.buttons.specs.Buttons.{optionUsed, limitRemoved, reminderAnswered, overrideArmed, stopIncreased, limitStepped, hidePressed}
+use Rattle.beacons.specs.Beacons.{mainOpened, sideOpened, optionOffered, reading4, remindedAfter, stopped}
 use Rattle.laws.specs.Ranges.{MainIn, WindowIn, AlongsideIn, OverrideIn, ReminderIn, CrossingIn, OptionIn, LimitIn, DeskIn}
-use Rattle.laws.specs.Parts.{pick-has, main-of, main-fresh, main-older, window-closed, window-older, alongside-none, alongside-older, alongside-after, override-off, override-older, reminder-fresh, reminder-older, reminder-reminded, crossing-none, crossing-older, crossing-unprotected, option-none, option-older, limit-none, limit-older, limit-set}
+use Rattle.laws.specs.Parts.{main-of, main-fresh, main-older, main-increased, window-closed, window-opened, window-older, time-left, alongside-none, alongside-older, alongside-after, override-off, override-now, override-older, reminder-fresh, reminder-older, reminder-reminded, reminder-pressed, crossing-none, crossing-older, crossing-unprotected, crossing-protected, option-none, option-now, option-older, limit-none, limit-older, limit-set, limit-stepped, limit-hidden}
+use Rattle.laws.specs.Walk.{Kept}
 
 -- ---- one member changed
 
@@ -57,30 +59,15 @@ module _ {d : Desk} (h : DeskIn d) where
   pub set-limit : (x : Limit) → LimitIn x → DeskIn (withLimit x d)
   set-limit x p = record { code = h .code; cause = h .cause; main = h .main; window = h .window; side = h .side; alongside = h .alongside; armed = h .armed; reminder = h .reminder; crossing = h .crossing; option = h .option; limit = p }
 
--- ---- the desk's own setters
+-- ---- whole desks
 
-pub taken-in : (kind : MainKind) (age distance : ℕ) (d : Desk) → age ≤ 30000 → distance ≤ 60000000 → DeskIn d → DeskIn (takenOver kind age distance d)
-unfolding takenOver
-taken-in kind age distance d a b h =
-    set-main (set-reminder (set-alongside h _ (alongside-after (d .main) (d .alongside) (h .alongside))) _ (reminder-fresh Off)) _ (main-of kind age distance a b)
-
-pub taken-fresh : (kind : MainKind) (d : Desk) → DeskIn d → DeskIn (takenOver kind 0 0 d)
-taken-fresh kind d h = taken-in kind 0 0 d (omega arith) (omega arith) h
-
-pub crossing-in : (age distance : ℕ) (d : Desk) → age ≤ 30000 → distance ≤ 60000000 → DeskIn d → DeskIn (crossingSet age distance d)
-unfolding crossingSet
-crossing-in age distance d a b h = set-crossing h _ (crossing-unprotected age distance (d .crossing) a b (h .crossing))
-
-pub limit-in : (age : ℕ) (d : Desk) → age ≤ 30000 → DeskIn d → DeskIn (limitNow age d)
-unfolding limitNow
-limit-in age d a h = set-limit h _ (limit-set age (d .limit) a (h .limit))
-
-pub fresh-in : DeskIn freshDesk
-fresh-in =
+-- a desk on which nothing but one main control stands, as opening and a mode change leave it
+bare-in : (bts : Bool) (code cause : ℕ) (m : Main) → code ≤ 11 → cause ≤ 5 → MainIn m → DeskIn (withMain m (withCause cause (withCode code (withBts bts freshDesk))))
+bare-in bts code cause m a b c =
     record {
-      code = omega arith;
-      cause = omega arith;
-      main = main-fresh main.Start;
+      code = a;
+      cause = b;
+      main = c;
       window = window-closed;
       side = window-closed;
       alongside = alongside-none;
@@ -91,28 +78,12 @@ fresh-in =
       limit = limit-none;
     }
 
--- ---- mode; ages and distances, endings, reminders and missed windows
+pub fresh-in : DeskIn freshDesk
+fresh-in = bare-in false 0 0 _ (omega arith) (omega arith) (main-fresh main.Start)
 
 resting-in : (bts : Bool) → MainIn (restingOf bts)
 resting-in true = main-fresh main.Clear
 resting-in false = main-fresh main.Start
-
-mode-in : (bts : Bool) (d : Desk) → DeskIn d → DeskIn (modeChanged bts d)
-unfolding modeChanged
-mode-in bts d h =
-    record {
-      code = h .code;
-      cause = h .cause;
-      main = resting-in bts;
-      window = window-closed;
-      side = window-closed;
-      alongside = alongside-none;
-      armed = override-off;
-      reminder = reminder-fresh Off;
-      crossing = crossing-none;
-      option = option-none;
-      limit = limit-none;
-    }
 
 older-in : (m : ℕ) (d : Desk) → DeskIn d → DeskIn (deskOlder m d)
 unfolding deskOlder
@@ -131,34 +102,47 @@ older-in m d h =
       limit = limit-older (d .limit) (h .limit);
     }
 
-reminded-in : (f : Bool) (x y : ℕ) (d : Desk) → DeskIn d → DeskIn (reminded f x y d)
-unfolding reminded
-reminded-in f x y d h = set-reminder h _ (reminder-reminded (d .main) f x y (d .reminder) (h .reminder))
+reminded-after-in : (b : Bool) → ReminderIn (remindedAfter b)
+reminded-after-in true = reminder-fresh Due
+reminded-after-in false = reminder-fresh Off
 
-pub main-counts-in : (d : Desk) → DeskIn d → DeskIn (mainCounts d)
-unfolding mainCounts
-main-counts-in d h = pick-has DeskIn (asksOf (d .window .waits)) (taken-in main.Announcement _ _ d (h .window .age) (h .window .distance) h) h
+-- ---- each thing that can happen
 
-pub side-counts-in : (d : Desk) → DeskIn d → DeskIn (sideCounts d)
-unfolding sideCounts
-side-counts-in d h = pick-has DeskIn (asksOf (d .side .waits)) (crossing-in _ _ d (h .side .age) (h .side .distance) h) h
+-- the age and distance of a reading
+abbrev ReadingIn : ℕ → ℕ → Type 0
+ReadingIn age distance = (age ≤ 30000) × (distance ≤ 60000000)
 
-main-missed-in : (b : Bool) (d : Desk) → DeskIn d → DeskIn (mainMissed b d)
-unfolding mainMissed
-main-missed-in true d h = set-window (main-counts-in d h) _ window-closed
-main-missed-in false d h = h
-
-side-missed-in : (b : Bool) (d : Desk) → DeskIn d → DeskIn (sideMissed b d)
-unfolding sideMissed
-side-missed-in true d h = set-side (side-counts-in d h) _ window-closed
-side-missed-in false d h = h
-
-advanced-in : (m : ℕ) (f : Bool) (x y : ℕ) (d : Desk) → DeskIn d → DeskIn (advanced m f x y d .desk)
-unfolding advanced
-advanced-in m f x y d h = side-missed-in _ _ (main-missed-in _ _ (reminded-in f x y (deskOlder m d) (older-in m d h)))
-
-pub begun-in : (bts : Bool) (m : ℕ) (f : Bool) (x y : ℕ) (d : Desk) → DeskIn d → DeskIn (begun bts m f x y d .desk)
-unfolding begun
-begun-in bts m f x y d h =
-    pick-has (λ (t : Turn). DeskIn (t .desk)) (sameMode (d .bts) bts) {x = advanced m f x y d} {y = record { desk = modeChanged bts d; cause = 0 }}
-    (advanced-in m f x y d h) (mode-in bts d h)
+pub ranges-kept : Kept DeskIn ReadingIn
+unfolding modeChanged reminded takenOver crossingSet limitNow stopped reading4 mainOpened sideOpened optionOffered optionUsed limitRemoved reminderAnswered overrideArmed stopIncreased limitStepped hidePressed
+ranges-kept =
+    record {
+      now = (omega arith, omega arith);
+      main-reading = λ d h. (h .window .age, h .window .distance);
+      side-reading = λ d h. (h .side .age, h .side .distance);
+      mode = λ bts d h. bare-in bts (d .code) (d .cause) _ (h .code) (h .cause) (resting-in bts);
+      older = older-in;
+      reminders = λ f x y d h. set-reminder h _ (reminder-reminded (d .main) f x y (d .reminder) (h .reminder));
+      taken = λ kind age distance d r h.
+          set-main (set-reminder (set-alongside h _ (alongside-after (d .main) (d .alongside) (h .alongside))) _ (reminder-fresh Off)) _ (main-of kind age distance (r .0) (r .1));
+      crossing = λ age distance d r h. set-crossing h _ (crossing-unprotected age distance (d .crossing) (r .0) (r .1) (h .crossing));
+      limit = λ age distance d r h. set-limit h _ (limit-set age (d .limit) (r .0) (h .limit));
+      stop = λ d h.
+          set-window
+          (set-armed (set-alongside (set-main (set-reminder h _ (reminded-after-in (d .armed .armed))) _ (main-fresh main.Stop)) _ alongside-none) _ override-off)
+          _ window-closed;
+      protected = λ d h. set-crossing h _ (crossing-protected 0 0 false (d .crossing) (omega arith) (omega arith) (h .crossing));
+      main-closed = λ d h. set-window h _ window-closed;
+      side-closed = λ d h. set-side h _ window-closed;
+      main-opened = λ w d h. set-window h _ (window-opened w _ (time-left (d .window) missTime (h .window) (omega arith)));
+      side-opened = λ w d h. set-side h _ (window-opened w _ (time-left (d .side) missTime (h .side) (omega arith)));
+      zone-opened = λ d h. set-window h _ (window-opened waits.Zone zoneMiss (omega arith));
+      offered = λ d h. set-option h _ option-now;
+      option = λ d h.
+          set-option (set-crossing h _ (crossing-protected _ _ true (d .crossing) (h .option .age) (h .option .distance) (h .crossing))) _ option-none;
+      removed = λ d h. set-limit h _ limit-none;
+      answered = λ d h. set-reminder h _ (reminder-pressed (d .reminder .phase));
+      armed = λ d h. set-armed h _ override-now;
+      increased = λ d h. set-main h _ (main-increased (d .main) (h .main));
+      stepped = λ d h. set-limit h _ (limit-stepped (d .limit) (h .limit));
+      hidden = λ d h. set-limit h _ (limit-hidden (d .limit) (h .limit));
+    }
