@@ -1,4 +1,5 @@
--- Up to the brake, no step of a sample touches the cause that stands; and a cause that arises is one of 1..5.
+-- Document 01, "Controls": "Any cause puts the brake on; the first stands, lowest number within a sample." Up to the brake no step of a sample
+-- touches the cause that stands; and what arises in a sample is one of the causes 1..5, or 0, none.
 use Prim.Native.Nat.{ℕ, _+_, _≤_, min}
 use native.Mathlib.Omega.{arith}
 use mathlib.Core.Path.{_≡_, refl}

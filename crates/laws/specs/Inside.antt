@@ -2,12 +2,11 @@
 use Prim.Native.Nat.{ℕ, _*_, _≤_}
 use native.Mathlib.Omega.{arith}
 use mathlib.Core.Path.{_≡_, refl}
-use mathlib.Core.Bool.{Bool, true, false, _&&_}
+use mathlib.Core.Bool.{Bool, true, false}
 use mathlib.Core.List.{List, [], _∷_}
-use lib.Dec.{eqb, leb}
-use borrow.Author.Tests.{eqb-true, leb-true}
+use lib.Dec.{eqb}
+use borrow.Author.Tests.{eqb-true, eqb-false}
 use Rattle.leaf.specs.Choosing.{pick}
-use Rattle.leaf.specs.Checks.{none-bad}
 use Rattle.leaf.specs.Answers.{Answer, given, refused, refusedAt}
 use Rattle.card.specs.declared.Settings.{Settings}
 use Rattle.card.specs.Ranges.{checkSettings, inRange}
@@ -18,11 +17,10 @@ use Rattle.sample.specs.Speed.{crossingTurned}
 use Rattle.sample.specs.Brake.{standingCause, braked}
 use Rattle.sample.specs.Sample.{movedOf, judgedOf, stepOf}
 use Rattle.session.specs.declared.Session.{Session}
-use Rattle.leaf.specs.declared.Refusal.the-variants.{Number}
-use Rattle.session.specs.declared.Outcome.the-variants as outcome
 use Rattle.session.specs.Types.{typeSpeed, typeAllowed}
-use Rattle.session.specs.Session.{freshSession, openedAfter, openSession, insideOf, sampleChecks, refusedBy, carried, ranOf, sampleOf}
-use Rattle.laws.specs.Ranges.{DeskIn, Inside, and-split, type-only, inside-only, inside-when}
+use Rattle.session.specs.Session.{freshSession, openedAfter, openSession, insideOf, refusedBy, carried, ranOf, sampleOf}
+use Rattle.laws.specs.Ranges.{DeskIn, Inside, type-only, inside-only, inside-when}
+use Rattle.laws.specs.OutOfRange.{accepted, accepted-as, refused-as, refused-8}
 use Rattle.laws.specs.Parts.{pick-low, crossing-turned}
 use Rattle.laws.specs.Walk.{moved-keeps}
 use Rattle.laws.specs.KeepsRanges.{set-code, set-cause, set-crossing, fresh-in, ranges-kept}
@@ -76,15 +74,6 @@ opened-inside settings train s h = judged (checkSettings 2 settings) refl h
 
 -- ---- a sample
 
--- an accepted sample's beacon is 0..11
-accepted-beacon : (s : Session) (pulses beacon buttons mode : ℕ) → refusedBy s pulses beacon buttons mode ≡ 0 → beacon ≤ 11
-unfolding refusedBy
-accepted-beacon s pulses beacon buttons mode h =
-    let f = none-bad 0 (sampleChecks s pulses beacon buttons mode) tt h .1 in
-    let a = and-split (leb beacon 11 && leb buttons 2047 && leb 1 mode) (leb mode 2) (f .1 .0) in
-    let b = and-split (leb beacon 11 && leb buttons 2047) (leb 1 mode) (a .0) in
-    leb-true beacon 11 (and-split (leb beacon 11) (leb buttons 2047) (b .0) .0)
-
 ran-inside : (x : Sample) (s : Session) → x .beacon ≤ 11 → insideOf s ≡ true → insideOf (ranOf x s .session) ≡ true
 unfolding ranOf
 ran-inside x s b h =
@@ -99,15 +88,17 @@ ran-inside x s b h =
 
 -- every session that a sample hands back is inside, where the one handed in is; a refused sample hands that one back
 pub sample-inside : (s : Session) (pulses beacon buttons mode : ℕ) → insideOf s ≡ true → insideOf (sampleOf s pulses beacon buttons mode .session) ≡ true
-unfolding sampleOf
-sample-inside s pulses beacon buttons mode h = cases (eqb (refusedBy s pulses beacon buttons mode) 0) refl
+sample-inside s pulses beacon buttons mode h = cases (eqb n 0) refl
   where
     n : ℕ
     n = refusedBy s pulses beacon buttons mode
 
-    cases : (t : Bool) → eqb n 0 ≡ t → insideOf (pick t (ranOf (carried s pulses beacon buttons mode) s) (record { session = s; outcome = outcome.Refused (Number n) }) .session) ≡ true
-    cases true e = ran-inside (carried s pulses beacon buttons mode) s (accepted-beacon s pulses beacon buttons mode (eqb-true n 0 e)) h
-    cases false e = h
+    cases : (t : Bool) → eqb n 0 ≡ t → insideOf (sampleOf s pulses beacon buttons mode .session) ≡ true
+    cases true e =
+        let z = eqb-true n 0 e in
+        let b = accepted s pulses beacon buttons mode .0 z .codes .beacon-high in
+        rw (accepted-as s pulses beacon buttons mode z) (ran-inside (carried s pulses beacon buttons mode) s b h)
+    cases false e = rw (refused-as s pulses beacon buttons mode n refl (eqb-false n 0 e)) h
 
 -- ---- any list of samples
 
@@ -131,3 +122,10 @@ after-inside s (x ∷ rest) h = after-inside _ rest (sample-inside s (x .pulses)
 -- "every session we make is inside": from opening on, after any samples
 pub always-inside : (settings : Settings) (train : ℕ) (s : Session) (xs : List Given) → openSession settings train ≡ given s → insideOf (after s xs) ≡ true
 always-inside settings train s xs h = after-inside s xs (opened-inside settings train s h)
+
+-- so no session that we make is refused with 8
+pub never-8 :
+    (settings : Settings) (train : ℕ) (s : Session) (xs : List Given) (pulses beacon buttons mode : ℕ)
+    → openSession settings train ≡ given s → refusedBy (after s xs) pulses beacon buttons mode ≡ 8 → ⊥
+never-8 settings train s xs pulses beacon buttons mode h e =
+    refused-8 (after s xs) pulses beacon buttons mode .0 e (inside-only (after s xs) (always-inside settings train s xs h))

@@ -1,4 +1,4 @@
--- Whatever happens to a desk inside its ranges leaves it inside them.
+-- Document 01, "The sample": "every session we make is inside": whatever happens to a desk inside its ranges leaves it inside them.
 use Prim.Native.Nat.{ℕ, _≤_}
 use native.Mathlib.Omega.{arith}
 use mathlib.Core.Bool.{Bool, true, false}

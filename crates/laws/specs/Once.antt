@@ -19,6 +19,7 @@ use Rattle.signals.specs.Stop.{reminderMissed}
 use Rattle.desk.specs.declared.state.Desk.{Desk}
 use Rattle.desk.specs.State.{takenOver, crossingSet}
 use Rattle.desk.specs.Clock.{deskOlder, reminded, mainCounts, sideCounts, mainMissed, sideMissed, missCause, advanced}
+use Rattle.laws.specs.Parts.{pick-has}
 use Rattle.laws.specs.Windows.{later, missed-exactly, isZone, answers-always, zone-answers}
 
 -- ---- the clock
@@ -29,11 +30,8 @@ oneOn m w = pick (missedOf (windowOlder m w)) closed (windowOlder m w)
 
 side-counts-window : (d : Desk) → sideCounts d .window ≡ d .window
 unfolding sideCounts crossingSet
-side-counts-window d = cases (asksOf (d .side .waits))
-  where
-    cases : (b : Bool) → pick b (crossingSet (d .side .age) (d .side .distance) d) d .window ≡ d .window
-    cases true = refl
-    cases false = refl
+side-counts-window d =
+    pick-has (λ (e : Desk). e .window ≡ d .window) (asksOf (d .side .waits)) {x = crossingSet (d .side .age) (d .side .distance) d} {y = d} refl refl
 
 side-missed-window : (c : Bool) (d : Desk) → sideMissed c d .window ≡ d .window
 unfolding sideMissed
@@ -47,11 +45,8 @@ main-missed-window false d = refl
 
 main-counts-side : (d : Desk) → mainCounts d .side ≡ d .side
 unfolding mainCounts takenOver
-main-counts-side d = cases (asksOf (d .window .waits))
-  where
-    cases : (b : Bool) → pick b (takenOver Announcement (d .window .age) (d .window .distance) d) d .side ≡ d .side
-    cases true = refl
-    cases false = refl
+main-counts-side d =
+    pick-has (λ (e : Desk). e .side ≡ d .side) (asksOf (d .window .waits)) {x = takenOver Announcement (d .window .age) (d .window .distance) d} {y = d} refl refl
 
 main-missed-side : (b : Bool) (d : Desk) → mainMissed b d .side ≡ d .side
 unfolding mainMissed

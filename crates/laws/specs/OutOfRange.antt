@@ -7,12 +7,14 @@ use mathlib.Core.Bool.{Bool, true, false, _&&_, _||_}
 use mathlib.Core.Logic.{_⊎_, inl, inr, _↔_}
 use mathlib.Core.List.{[], _∷_}
 use lib.Dec.{leb, eqb}
-use borrow.Author.Tests.{le-leb, leb-true, leb-false, lt-leb, eqb-true, eqb-false}
+use borrow.Author.Tests.{le-leb, leb-true, leb-false, lt-leb, eqb-true, eqb-false, ne-eqb}
 use Rattle.leaf.specs.Choosing.{pick}
 use Rattle.leaf.specs.Checks.{firstBad, orFault, FirstFault, first-fault}
+use Rattle.leaf.specs.declared.Refusal.the-variants.{Number}
 use Rattle.desk.specs.Clock.{sameMode}
 use Rattle.session.specs.declared.Session.{Session}
-use Rattle.session.specs.Session.{insideOf, standstill, inBts, sampleChecks, refusedBy}
+use Rattle.session.specs.declared.Outcome.the-variants.{Refused}
+use Rattle.session.specs.Session.{insideOf, standstill, inBts, sampleChecks, refusedBy, carried, ranOf, sampleOf}
 use Rattle.laws.specs.Ranges.{Inside, and-split, inside-only, inside-when}
 
 -- ---- the facts
@@ -102,16 +104,16 @@ mode-when bts pulses mode (inr e) = rw e (cases (sameMode bts (inBts mode)))
 -- ---- the order
 
 -- the first of four tests that fails gives its number
-four : (a b c e : Bool) → firstBad 0 ((8, a) ∷ (9, b) ∷ (10, c) ∷ (11, e) ∷ []) ≡ pick a (pick b (pick c (pick e 0 11) 10) 9) 8
+abbrev verdict : Bool → Bool → Bool → Bool → ℕ
+verdict a b c e = pick a (pick b (pick c (pick e 0 11) 10) 9) 8
+
+four : (a b c e : Bool) → firstBad 0 ((8, a) ∷ (9, b) ∷ (10, c) ∷ (11, e) ∷ []) ≡ verdict a b c e
 unfolding orFault
 four false b c e = refl
 four true false c e = refl
 four true true false e = refl
 four true true true false = refl
 four true true true true = refl
-
-abbrev verdict : Bool → Bool → Bool → Bool → ℕ
-verdict a b c e = pick a (pick b (pick c (pick e 0 11) 10) 9) 8
 
 is-0 : (a b c e : Bool) → verdict a b c e ≡ 0 → (a ≡ true) × ((b ≡ true) × ((c ≡ true) × (e ≡ true)))
 is-0 false b c e h = absurd (omega arith)
@@ -240,3 +242,14 @@ module _ (s : Session) (pulses beacon buttons mode : ℕ) where
   pub first-refused : (n : ℕ) → refusedBy s pulses beacon buttons mode ≡ n → (n ≡ 0 → ⊥) → FirstFault n (sampleChecks s pulses beacon buttons mode)
   unfolding refusedBy
   first-refused n h z = first-fault (sampleChecks s pulses beacon buttons mode) n tt h z
+
+  -- "A refusal returns its number .. and leaves .. the handed-in session unchanged."
+  pub refused-as : (n : ℕ) → refusedBy s pulses beacon buttons mode ≡ n → (n ≡ 0 → ⊥)
+      → sampleOf s pulses beacon buttons mode ≡ record { session = s; outcome = Refused (Number n) }
+  unfolding sampleOf
+  refused-as n h z = rw (h, ne-eqb n 0 z)
+
+  -- a sample that is accepted is run
+  pub accepted-as : refusedBy s pulses beacon buttons mode ≡ 0 → sampleOf s pulses beacon buttons mode ≡ ranOf (carried s pulses beacon buttons mode) s
+  unfolding sampleOf
+  accepted-as h = rw h

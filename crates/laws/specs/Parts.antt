@@ -1,4 +1,5 @@
--- Each part of the desk stays inside its ranges: one sample on, set, pressed or turned.
+-- Document 01, "The sample": "Ages count samples from the sample that starts them (age 0) and stop at 30,000; distances stop at 60,000,000.": each
+-- part of the desk stays inside its ranges, one sample on, set, pressed or turned.
 use Prim.Native.Nat.{ℕ, _≤_}
 use native.Mathlib.Omega.{arith}
 use mathlib.Core.Bool.{Bool, true, false, _&&_, _||_}
