@@ -15,7 +15,7 @@ use Rattle.signals.specs.declared.window.Waits.the-variants.{Nothing, Zone}
 use Rattle.signals.specs.declared.control.MainKind.the-variants.{Announcement}
 use Rattle.signals.specs.declared.window.Window.{Window}
 use Rattle.signals.specs.Windows.{closed, opened, isOpen, asksOf, windowOlder, missedOf, waitsFor, answersOf}
-use Rattle.signals.specs.Stop.{reminderMissed}
+use Rattle.signals.specs.Stop.{reminderOlder, reminderMissed}
 use Rattle.desk.specs.declared.state.Desk.{Desk}
 use Rattle.desk.specs.State.{takenOver, crossingSet}
 use Rattle.desk.specs.Clock.{deskOlder, reminded, mainCounts, sideCounts, mainMissed, sideMissed, missCause, advanced}
@@ -68,19 +68,34 @@ unfolding advanced reminded deskOlder oneOn
 clock-side m function2 x y d =
     side-missed-side _ _ ∙ rw (main-missed-side (missedOf (windowOlder m (d .window))) (reminded function2 x y (deskOlder m d)))
 
--- "cause 1 main, cause 2 side": and the cause says that it was missed
-causes : (a b c : Bool) → (missCause a b c ≡ 1) ↔ (a ≡ true)
-causes a b c = (only a b c, λ e. rw e)
-  where
-    only : (a b c : Bool) → missCause a b c ≡ 1 → a ≡ true
-    only true b c h = refl
-    only false true c h = absurd (omega arith)
-    only false false true h = absurd (omega arith)
-    only false false false h = absurd (omega arith)
+-- "cause 1 main, cause 2 side", "lowest number within a sample": the cause is given exactly where the window is missed
+main-cause : (a b c : Bool) → missCause a b c ≡ 1 → a ≡ true
+main-cause true b c h = refl
+main-cause false true c h = absurd (omega arith)
+main-cause false false true h = absurd (omega arith)
+main-cause false false false h = absurd (omega arith)
 
-pub clock-cause : (m : ℕ) (function2 : Bool) (x y : ℕ) (d : Desk) → (advanced m function2 x y d .cause ≡ 1) ↔ (missedOf (windowOlder m (d .window)) ≡ true)
-unfolding advanced deskOlder
-clock-cause m function2 x y d = causes (missedOf (windowOlder m (d .window))) (missedOf (windowOlder m (d .side))) (reminderMissed (deskOlder m d .reminder))
+side-cause : (a b c : Bool) → missCause a b c ≡ 2 → (a ≡ false) × (b ≡ true)
+side-cause true b c h = absurd (omega arith)
+side-cause false true c h = (refl, refl)
+side-cause false false true h = absurd (omega arith)
+side-cause false false false h = absurd (omega arith)
+
+module _ (m : ℕ) (function2 : Bool) (x y : ℕ) (d : Desk) where
+  abbrev main-missed : Bool
+  main-missed = missedOf (windowOlder m (d .window))
+
+  abbrev side-missed : Bool
+  side-missed = missedOf (windowOlder m (d .side))
+
+  pub clock-cause-1 : (advanced m function2 x y d .cause ≡ 1) ↔ (missedOf (windowOlder m (d .window)) ≡ true)
+  unfolding advanced deskOlder
+  clock-cause-1 = (main-cause main-missed side-missed (reminderMissed (reminderOlder m (d .reminder))), λ e. rw e)
+
+  pub clock-cause-2 : (advanced m function2 x y d .cause ≡ 2)
+      ↔ ((missedOf (windowOlder m (d .window)) ≡ false) × (missedOf (windowOlder m (d .side)) ≡ true))
+  unfolding advanced deskOlder
+  clock-cause-2 = (side-cause main-missed side-missed (reminderMissed (reminderOlder m (d .reminder))), λ e. rw (e .0, e .1))
 
 -- a window k samples after it opened, misses included
 unfoldable pub lived : (ℕ → ℕ) → ℕ → Window → Window
