@@ -20,7 +20,8 @@ use Rattle.sample.specs.Speed.{crossingTurned, mainSpeed, leastIf, supervisedOf
 use Rattle.session.specs.Ranges.{deskInside}
 use Rattle.session.specs.Session.{openSession, settingsInside, insideOf, refusedBy, ranOf, sampleOf}
 use Rattle.session.specs.Types.{typeSpeed, typeAllowed}
-use Rattle.demands.specs.Runs.{outcomes, lastly}
+use Rattle.laws.specs.Inside as made
+use Rattle.demands.specs.Runs.{outcomes}
 use Rattle.demands.specs.Speaks.{speaks1, speaks2, differingSpeaks, silentFor}
 
 unfoldable pub card : Unit {0}
@@ -56,5 +57,5 @@ unfolding deskInside openSession settingsInside insideOf refusedBy ranOf sampleO
 session = tt
 
 unfoldable pub definitions : Unit {0}
-unfolding card signal-parts side-parts desk presses beacons sample session outcomes lastly speaks1 speaks2 differingSpeaks silentFor
+unfolding card signal-parts side-parts desk presses beacons sample session outcomes made.after speaks1 speaks2 differingSpeaks silentFor
 definitions = tt

@@ -18,6 +18,7 @@ use Rattle.session.specs.declared.Session.{Session}
 use Rattle.session.specs.declared.Outcome.the-variants.{Answered, Refused}
 use Rattle.session.specs.Types.{typeSpeed}
 use Rattle.session.specs.Session.{freshSession, openSession, insideOf, carried, ranOf}
+use Rattle.laws.specs.Inside as made
 use Rattle.demands.specs.Runs.{Sample, after, accepted}
 use Rattle.demands.specs.Refused.{open-inside}
 use Rattle.demands.specs.Alike.{accepted-runs, refused-stays, refusalOf}
@@ -26,6 +27,10 @@ use Rattle.demands.specs.Alike.{accepted-runs, refused-stays, refusalOf}
 -- session is the fresh one, inside its ranges.
 pub opened : (s : Settings) (train : ℕ) (u : Session) → openSession s train ≡ given u → (u ≡ freshSession s train) × (insideOf u ≡ true)
 opened = open-inside
+
+-- ".. every session we make is inside": and so is every session after it, whatever samples come, accepted or refused.
+pub always-inside : (settings : Settings) (train : ℕ) (s : Session) (xs : List Sample) → openSession settings train ≡ given s → insideOf (made.after s xs) ≡ true
+always-inside = made.always-inside
 
 -- "The session is handed in and handed back with each sample's answer.": each accepted sample's answer, and the desk after it, are the
 -- definition's; settings and train type stay.

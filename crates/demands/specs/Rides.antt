@@ -10,7 +10,8 @@ use Rattle.card.proofs.Examples.{cardA}
 use Rattle.session.specs.declared.Session.{Session}
 use Rattle.session.specs.declared.Outcome.{Outcome}
 use Rattle.session.specs.declared.Outcome.the-variants as outcome
-use Rattle.demands.specs.Runs.{Sample, after, lastly}
+use Rattle.laws.specs.Inside as made
+use Rattle.demands.specs.Runs.{Sample, after}
 
 -- ---- samples
 
@@ -28,7 +29,7 @@ times (suc n) x xs = x ∷ times n x xs
 
 -- the outcome of a sample that comes after others, in a session that opening gives
 abbrev pub endOf : Answer Session → List Sample → Sample → Answer Outcome
-endOf (given s) xs x = given (after (lastly s xs) x .outcome)
+endOf (given s) xs x = given (after (made.after s xs) x .outcome)
 endOf (refused n) xs x = refused n
 endOf (refusedAt n place) xs x = refusedAt n place
 

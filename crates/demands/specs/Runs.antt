@@ -12,13 +12,11 @@ use Rattle.session.specs.declared.Session.{Session}
 use Rattle.session.specs.declared.Outcome.{Outcome}
 use Rattle.session.specs.declared.Sampled.{Sampled}
 use Rattle.session.specs.Session.{openSession, refusedBy, sampleOf}
+use Rattle.laws.specs.Inside.{Given}
 
 -- "Every 100 ms (house): pulses (u16), beacon 0..11, buttons newly pressed (bits 0..10), mode 1 CONV or 2 BTS."
-pub record Sample : Type 0 where
-  pub pulses : ℕ
-  pub beacon : ℕ
-  pub buttons : ℕ
-  pub mode : ℕ
+abbrev pub Sample : Type 0
+Sample = Given
 
 -- the session after one sample, beside its answer or refusal
 abbrev pub after : Session → Sample → Sampled
@@ -32,11 +30,6 @@ accepted s x = eqb (refusedBy s (x .pulses) (x .beacon) (x .buttons) (x .mode)) 
 unfoldable pub outcomes : Session → List Sample → List Outcome
 outcomes s [] = []
 outcomes s (x ∷ xs) = after s x .outcome ∷ outcomes (after s x .session) xs
-
--- the session after them
-unfoldable pub lastly : Session → List Sample → Session
-lastly s [] = s
-lastly s (x ∷ xs) = lastly (after s x .session) xs
 
 -- what was opened, or not, is run
 abbrev pub runFrom : Answer Session → List Sample → Answer (List Outcome)

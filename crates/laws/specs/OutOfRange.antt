@@ -1,0 +1,255 @@
+-- Document 01, "Refusal numbers": a sample is refused with 8, 9, 10 or 11 exactly when the plain facts say so, in that order, and in no
+-- other case.
+use Prim.Native.Nat.{ℕ, _*_, _≤_, _<_}
+use native.Mathlib.Omega.{arith}
+use mathlib.Core.Path.{_≡_, refl, sym, _∙_}
+use mathlib.Core.Bool.{Bool, true, false, _&&_, _||_}
+use mathlib.Core.Logic.{_⊎_, inl, inr, _↔_}
+use mathlib.Core.List.{[], _∷_}
+use lib.Dec.{leb, eqb}
+use borrow.Author.Tests.{le-leb, leb-true, leb-false, lt-leb, eqb-true, eqb-false, ne-eqb}
+use Rattle.leaf.specs.Choosing.{pick}
+use Rattle.leaf.specs.Checks.{firstBad, orFault, FirstFault, first-fault}
+use Rattle.leaf.specs.declared.Refusal.the-variants.{Number}
+use Rattle.desk.specs.Clock.{sameMode}
+use Rattle.session.specs.declared.Session.{Session}
+use Rattle.session.specs.declared.Outcome.the-variants.{Refused}
+use Rattle.session.specs.Session.{insideOf, standstill, inBts, sampleChecks, refusedBy, carried, ranOf, sampleOf}
+use Rattle.laws.specs.Ranges.{Inside, and-split, inside-only, inside-when}
+
+-- ---- the facts
+
+-- "beacon 0..11, buttons newly pressed (bits 0..10), mode 1 CONV or 2 BTS"
+pub record CodesMet (beacon buttons mode : ℕ) : Type 0 where
+  pub beacon-high : beacon ≤ 11
+  pub buttons-high : buttons ≤ 2047
+  pub mode-low : 1 ≤ mode
+  pub mode-high : mode ≤ 2
+
+-- the session's mode by its number: "mode 1 CONV or 2 BTS"
+abbrev pub modeOf : Session → ℕ
+modeOf s = pick (s .desk .bts) 2 1
+
+-- "mode changed in a sample with pulses" is not so
+abbrev pub ModeMet : Session → ℕ → ℕ → Type 0
+ModeMet s pulses mode = (mode ≡ modeOf s) ⊎ (pulses ≡ 0)
+
+-- a sample that is accepted
+pub record Accepted (s : Session) (pulses beacon buttons mode : ℕ) : Type 0 where
+  pub inside : Inside s
+  pub codes : CodesMet beacon buttons mode
+  pub slow : pulses * s .settings .tick ≤ 100000
+  pub kept : ModeMet s pulses mode
+
+-- ---- each test and its facts
+
+apart : {A : Type 0} (t : Bool) → t ≡ true → t ≡ false → A
+apart t p q = let z : _≡_ {A = ℕ} 0 1 = cc in absurd (omega arith)
+
+-- a test that is not true is false
+not-so : (t : Bool) → (t ≡ true → ⊥) → t ≡ false
+not-so true h = absurd (h refl)
+not-so false h = refl
+
+-- "session out of its ranges": exactly when the facts of a session inside do not all hold
+pub outside-only : (s : Session) → insideOf s ≡ false → Inside s → ⊥
+outside-only s h i = apart (insideOf s) (inside-when s i) h
+
+pub outside-when : (s : Session) → (Inside s → ⊥) → insideOf s ≡ false
+outside-when s h = not-so (insideOf s) (λ e. h (inside-only s e))
+
+abbrev codesTest : ℕ → ℕ → ℕ → Bool
+codesTest beacon buttons mode = leb beacon 11 && leb buttons 2047 && leb 1 mode && leb mode 2
+
+codes-only : (beacon buttons mode : ℕ) → codesTest beacon buttons mode ≡ true → CodesMet beacon buttons mode
+codes-only beacon buttons mode h =
+    let a = and-split (leb beacon 11 && leb buttons 2047 && leb 1 mode) (leb mode 2) h in
+    let b = and-split (leb beacon 11 && leb buttons 2047) (leb 1 mode) (a .0) in
+    let c = and-split (leb beacon 11) (leb buttons 2047) (b .0) in
+    record {
+      beacon-high = leb-true beacon 11 (c .0);
+      buttons-high = leb-true buttons 2047 (c .1);
+      mode-low = leb-true 1 mode (b .1);
+      mode-high = leb-true mode 2 (a .1);
+    }
+
+codes-when : (beacon buttons mode : ℕ) → CodesMet beacon buttons mode → codesTest beacon buttons mode ≡ true
+codes-when beacon buttons mode m =
+    rw (le-leb beacon 11 (m .beacon-high), le-leb buttons 2047 (m .buttons-high), le-leb 1 mode (m .mode-low), le-leb mode 2 (m .mode-high))
+
+abbrev modeTest : Bool → ℕ → ℕ → Bool
+modeTest bts pulses mode = sameMode bts (inBts mode) || standstill pulses
+
+mode-only : (bts : Bool) (pulses mode : ℕ) → 1 ≤ mode → mode ≤ 2 → modeTest bts pulses mode ≡ true → (mode ≡ pick bts 2 1) ⊎ (pulses ≡ 0)
+mode-only bts pulses mode low high h = cases bts (eqb mode 2) refl h
+  where
+    cases : (b t : Bool) → eqb mode 2 ≡ t → (sameMode b t || eqb pulses 0) ≡ true → (mode ≡ pick b 2 1) ⊎ (pulses ≡ 0)
+    cases true true e h = inl (eqb-true mode 2 e)
+    cases true false e h = inr (eqb-true pulses 0 h)
+    cases false true e h = inr (eqb-true pulses 0 h)
+    cases false false e h = let n = eqb-false mode 2 e in inl (omega arith)
+
+mode-when : (bts : Bool) (pulses mode : ℕ) → (mode ≡ pick bts 2 1) ⊎ (pulses ≡ 0) → modeTest bts pulses mode ≡ true
+mode-when bts pulses mode (inl e) = cases bts e
+  where
+    cases : (b : Bool) → mode ≡ pick b 2 1 → modeTest b pulses mode ≡ true
+    cases true e = rw e
+    cases false e = rw e
+mode-when bts pulses mode (inr e) = rw e (cases (sameMode bts (inBts mode)))
+  where
+    cases : (b : Bool) → (b || true) ≡ true
+    cases true = refl
+    cases false = refl
+
+-- ---- the order
+
+-- the first of four tests that fails gives its number
+abbrev verdict : Bool → Bool → Bool → Bool → ℕ
+verdict a b c e = pick a (pick b (pick c (pick e 0 11) 10) 9) 8
+
+four : (a b c e : Bool) → firstBad 0 ((8, a) ∷ (9, b) ∷ (10, c) ∷ (11, e) ∷ []) ≡ verdict a b c e
+unfolding orFault
+four false b c e = refl
+four true false c e = refl
+four true true false e = refl
+four true true true false = refl
+four true true true true = refl
+
+is-0 : (a b c e : Bool) → verdict a b c e ≡ 0 → (a ≡ true) × ((b ≡ true) × ((c ≡ true) × (e ≡ true)))
+is-0 false b c e h = absurd (omega arith)
+is-0 true false c e h = absurd (omega arith)
+is-0 true true false e h = absurd (omega arith)
+is-0 true true true false h = absurd (omega arith)
+is-0 true true true true h = (refl, (refl, (refl, refl)))
+
+is-8 : (a b c e : Bool) → verdict a b c e ≡ 8 → a ≡ false
+is-8 false b c e h = refl
+is-8 true false c e h = absurd (omega arith)
+is-8 true true false e h = absurd (omega arith)
+is-8 true true true false h = absurd (omega arith)
+is-8 true true true true h = absurd (omega arith)
+
+is-9 : (a b c e : Bool) → verdict a b c e ≡ 9 → (a ≡ true) × (b ≡ false)
+is-9 false b c e h = absurd (omega arith)
+is-9 true false c e h = (refl, refl)
+is-9 true true false e h = absurd (omega arith)
+is-9 true true true false h = absurd (omega arith)
+is-9 true true true true h = absurd (omega arith)
+
+is-10 : (a b c e : Bool) → verdict a b c e ≡ 10 → (a ≡ true) × ((b ≡ true) × (c ≡ false))
+is-10 false b c e h = absurd (omega arith)
+is-10 true false c e h = absurd (omega arith)
+is-10 true true false e h = (refl, (refl, refl))
+is-10 true true true false h = absurd (omega arith)
+is-10 true true true true h = absurd (omega arith)
+
+is-11 : (a b c e : Bool) → verdict a b c e ≡ 11 → (a ≡ true) × ((b ≡ true) × ((c ≡ true) × (e ≡ false)))
+is-11 false b c e h = absurd (omega arith)
+is-11 true false c e h = absurd (omega arith)
+is-11 true true false e h = absurd (omega arith)
+is-11 true true true false h = (refl, (refl, (refl, refl)))
+is-11 true true true true h = absurd (omega arith)
+
+module _ (s : Session) (pulses beacon buttons mode : ℕ) where
+  abbrev a : Bool
+  a = insideOf s
+
+  abbrev b : Bool
+  b = codesTest beacon buttons mode
+
+  abbrev c : Bool
+  c = leb (pulses * s .settings .tick) 100000
+
+  abbrev e : Bool
+  e = modeTest (s .desk .bts) pulses mode
+
+  by-tests : refusedBy s pulses beacon buttons mode ≡ verdict a b c e
+  unfolding refusedBy
+  by-tests = four a b c e
+
+  -- the sample is accepted exactly when all the facts hold
+  pub accepted : (refusedBy s pulses beacon buttons mode ≡ 0) ↔ Accepted s pulses beacon buttons mode
+  accepted = (only, when)
+    where
+      only : refusedBy s pulses beacon buttons mode ≡ 0 → Accepted s pulses beacon buttons mode
+      only h =
+          let t = is-0 a b c e (sym by-tests ∙ h) in
+          let codes = codes-only beacon buttons mode (t .1 .0) in
+          record {
+            inside = inside-only s (t .0);
+            codes = codes;
+            slow = leb-true _ _ (t .1 .1 .0);
+            kept = mode-only (s .desk .bts) pulses mode (codes .mode-low) (codes .mode-high) (t .1 .1 .1);
+          }
+
+      when : Accepted s pulses beacon buttons mode → refusedBy s pulses beacon buttons mode ≡ 0
+      when m =
+          by-tests
+          ∙ rw (inside-when s (m .inside), codes-when beacon buttons mode (m .codes), le-leb _ _ (m .slow), mode-when (s .desk .bts) pulses mode (m .kept))
+
+  -- "8 | session out of its ranges"
+  pub refused-8 : (refusedBy s pulses beacon buttons mode ≡ 8) ↔ (Inside s → ⊥)
+  refused-8 = (λ h. outside-only s (is-8 a b c e (sym by-tests ∙ h)), λ m. by-tests ∙ rw (outside-when s m))
+
+  -- "9 | beacon, buttons or mode out of range": and the session is inside
+  pub refused-9 : (refusedBy s pulses beacon buttons mode ≡ 9) ↔ (Inside s × (CodesMet beacon buttons mode → ⊥))
+  refused-9 = (only, when)
+    where
+      only : refusedBy s pulses beacon buttons mode ≡ 9 → Inside s × (CodesMet beacon buttons mode → ⊥)
+      only h =
+          let t = is-9 a b c e (sym by-tests ∙ h) in
+          (inside-only s (t .0), λ m. apart b (codes-when beacon buttons mode m) (t .1))
+
+      when : Inside s × (CodesMet beacon buttons mode → ⊥) → refusedBy s pulses beacon buttons mode ≡ 9
+      when m = by-tests ∙ rw (inside-when s (m .0), not-so b (λ q. m .1 (codes-only beacon buttons mode q)))
+
+  -- "10 | pulses × tick length above 100,000": and nothing before it
+  pub refused-10 : (refusedBy s pulses beacon buttons mode ≡ 10) ↔ (Inside s × (CodesMet beacon buttons mode × (100000 < pulses * s .settings .tick)))
+  refused-10 = (only, when)
+    where
+      only : refusedBy s pulses beacon buttons mode ≡ 10 → Inside s × (CodesMet beacon buttons mode × (100000 < pulses * s .settings .tick))
+      only h =
+          let t = is-10 a b c e (sym by-tests ∙ h) in
+          (inside-only s (t .0), (codes-only beacon buttons mode (t .1 .0), leb-false _ _ (t .1 .1)))
+
+      when : Inside s × (CodesMet beacon buttons mode × (100000 < pulses * s .settings .tick)) → refusedBy s pulses beacon buttons mode ≡ 10
+      when m = by-tests ∙ rw (inside-when s (m .0), codes-when beacon buttons mode (m .1 .0), lt-leb _ _ (m .1 .1))
+
+  -- "11 | mode changed in a sample with pulses": and nothing before it
+  pub refused-11 : (refusedBy s pulses beacon buttons mode ≡ 11)
+      ↔ (Inside s × (CodesMet beacon buttons mode × ((pulses * s .settings .tick ≤ 100000) × (ModeMet s pulses mode → ⊥))))
+  refused-11 = (only, when)
+    where
+      only : refusedBy s pulses beacon buttons mode ≡ 11
+          → Inside s × (CodesMet beacon buttons mode × ((pulses * s .settings .tick ≤ 100000) × (ModeMet s pulses mode → ⊥)))
+      only h =
+          let t = is-11 a b c e (sym by-tests ∙ h) in
+          (inside-only s (t .0), (codes-only beacon buttons mode (t .1 .0), (leb-true _ _ (t .1 .1 .0), λ m. apart e (mode-when (s .desk .bts) pulses mode m) (t .1 .1 .1))))
+
+      when : Inside s × (CodesMet beacon buttons mode × ((pulses * s .settings .tick ≤ 100000) × (ModeMet s pulses mode → ⊥)))
+          → refusedBy s pulses beacon buttons mode ≡ 11
+      when m =
+          let codes = m .1 .0 in
+          by-tests
+          ∙ rw (
+            inside-when s (m .0),
+            codes-when beacon buttons mode codes,
+            le-leb _ _ (m .1 .1 .0),
+            not-so e (λ q. m .1 .1 .1 (mode-only (s .desk .bts) pulses mode (codes .mode-low) (codes .mode-high) q)),
+          )
+
+  -- "sample 8, 9, 10, 11": a number that is given is that of a check of the list that fails, and every check before it holds
+  pub first-refused : (n : ℕ) → refusedBy s pulses beacon buttons mode ≡ n → (n ≡ 0 → ⊥) → FirstFault n (sampleChecks s pulses beacon buttons mode)
+  unfolding refusedBy
+  first-refused n h z = first-fault (sampleChecks s pulses beacon buttons mode) n tt h z
+
+  -- "A refusal returns its number .. and leaves .. the handed-in session unchanged."
+  pub refused-as : (n : ℕ) → refusedBy s pulses beacon buttons mode ≡ n → (n ≡ 0 → ⊥)
+      → sampleOf s pulses beacon buttons mode ≡ record { session = s; outcome = Refused (Number n) }
+  unfolding sampleOf
+  refused-as n h z = rw (h, ne-eqb n 0 z)
+
+  -- a sample that is accepted is run
+  pub accepted-as : refusedBy s pulses beacon buttons mode ≡ 0 → sampleOf s pulses beacon buttons mode ≡ ranOf (carried s pulses beacon buttons mode) s
+  unfolding sampleOf
+  accepted-as h = rw h

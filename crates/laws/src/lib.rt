@@ -1,0 +1,1 @@
+// Theorems about the session's definitions, in specs/: no code.
