@@ -1,4 +1,7 @@
--- DEMAND 1. "Every input gets an answer." Document 01: "A refusal returns its number (and place for 5, 12), is given in no other case, and
+-- DEMAND 1. "Every input gets an answer. A bad card, sheet, ride, sample or session is refused by its number in document 01; the session
+-- handed in comes back unchanged, no lent byte is altered."
+--
+-- Document 01: "A refusal returns its number (and place for 5, 12), is given in no other case, and
 -- leaves buffers and the handed-in session unchanged. Order: card reading 6, 1 (under 3), 2, 3, 4, 1 (record), 5; writing 2, 5, 13; opening 5,
 -- 7; sample 8, 9, 10, 11". For each kind of input: what is asked for is given where all its checks hold; a number, or place, that is given
 -- is that of the first that fails (`FirstFault`: it fails, and every one before it holds).

@@ -1,4 +1,7 @@
--- DEMAND 2. "Exactly the rules." The sessions are those that opening and `sampleOf` make; each definition stands in the crate of its layer,
+-- DEMAND 2. "Every accepted sample gives exactly the state, speed, lamps and brake cause of document 01's rules. A card is accepted exactly
+-- when its reader knows its version and its layout is met; what we write reads back as the settings written."
+--
+-- The sessions are those that opening and `sampleOf` make; each definition stands in the crate of its layer,
 -- with document 01's sentence above it.
 use Prim.Native.Nat.{ℕ, _*_, _≤_}
 use mathlib.Core.Bool.{true, false}

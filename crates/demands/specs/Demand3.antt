@@ -1,4 +1,8 @@
--- DEMAND 3. "Old bytes stay silent." Stated of the sessions that demand 2 defines: `rideOf area highest train xs` is all that a desk answers
+-- DEMAND 3. "Old bytes stay silent. Same speaking bytes, same answers for every sequence of samples; version 1 answers like version 2 with all
+-- later functions off; two cards that differ only in later functions answer alike up to, not including, the first accepted sample at which
+-- a differing function speaks; a reader told to know version 1 refuses version 2 by name."
+--
+-- Stated of the sessions that demand 2 defines: `rideOf area highest train xs` is all that a desk answers
 -- with this card, a reader told to know the versions up to `highest`, this train type, and these samples.
 use Prim.Native.Nat.{ℕ, _≤_}
 use mathlib.Core.Bool.{true}
