@@ -12,7 +12,6 @@
 //              its number in the ride, S, lamps, cause, crossing icon, limit standing or not; or the refusal.
 // In all lines but titles and cards only numbers and the ? count; words beside them are for the reader.
 use card::Reading;
-use card::Settings;
 use leaf::Refusal;
 use sample::step::Answer;
 use session::Opened;
