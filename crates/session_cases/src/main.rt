@@ -20,8 +20,8 @@ use session::Session;
 
 // ---- a line
 
-// A line as far as it has come. `first` is its first byte, 0 before it; `at` counts the numbers that have ended and `half`
-// the hex digits; `inside` is said of a number that has not ended.
+// A line as far as it has come, and the last card. `first` is the line's first byte, 0 before it; `at` counts the numbers that
+// have ended and `half` the hex digits; `inside` is said of a number that has not ended.
 struct Line {
     first: u8,
     numbers: [u16; 5],
@@ -61,14 +61,15 @@ fn longer(number: u16, digit: u8) -> u16 {
 }
 
 impl Line {
-    fn empty() -> Line {
+    // A line of which nothing has come.
+    fn empty(card: [u8; 44]) -> Line {
         Line {
             first: 0,
             numbers: [0; 5],
             at: 0,
             inside: false,
             shown: false,
-            card: [0; 44],
+            card: card,
             half: 0,
         }
     }
@@ -85,8 +86,10 @@ impl Line {
             self.shown = true;
         }
         let digit = hex_digit(b);
-        let line = self.with_hex(digit);
-        line.with_digit(digit)
+        if self.first == b'=' {
+            return self.with_hex(digit);
+        }
+        self.with_digit(digit)
     }
 
     fn with_hex(mut self, digit: u8) -> Line {
@@ -154,7 +157,11 @@ fn answer(a: Answer) {
     io::write_all(1, b"\n");
 }
 
-fn outcome(n: u16, o: Outcome) {
+// The n-th sample's answer, where it is shown.
+fn outcome(shown: bool, n: u16, o: Outcome) {
+    if !shown {
+        return;
+    }
     io::print_decimal(1, n as u64);
     io::write_all(1, b" ");
     match o {
@@ -167,7 +174,6 @@ fn outcome(n: u16, o: Outcome) {
 
 // `n` is the number of the last sample.
 struct Ride {
-    card: [u8; 44],
     opened: Opened,
     n: u16,
 }
@@ -235,35 +241,30 @@ fn samples(
         let given = sampled.outcome;
         last = sampled.session;
         k += 1;
-        if shown {
-            outcome(later(n, k), given);
-        }
+        outcome(shown, later(n, k), given);
     }
     last
 }
 
-impl Ride {
-    fn open(self, train: u8) -> Ride {
-        let card = self.card;
-        let opened = open(card, train);
-        if let Opened::Refused(why) = opened {
-            refusal(why);
-        }
-        Ride {
-            card: card,
-            opened: opened,
-            n: 0,
-        }
+// The ride that a card and a train type open.
+fn opening(card: [u8; 44], train: u8) -> Ride {
+    let opened = open(card, train);
+    if let Opened::Refused(why) = opened {
+        refusal(why);
     }
+    Ride {
+        opened: opened,
+        n: 0,
+    }
+}
 
+impl Ride {
     fn tick(self, tick: u16) -> Ride {
         let opened = self.opened;
         let Opened::Ready(session) = opened else {
             return self;
         };
-        let card = self.card;
         Ride {
-            card: card,
             opened: Opened::Ready(with_tick(session, tick)),
             n: self.n,
         }
@@ -275,7 +276,6 @@ impl Ride {
         let Opened::Ready(session) = opened else {
             return self;
         };
-        let card = self.card;
         let x = line.numbers;
         let mode = small(leaf::choose16(x[4] == 0, 1, x[4]));
         let next = samples(
@@ -289,53 +289,52 @@ impl Ride {
             line.shown,
         );
         Ride {
-            card: card,
             opened: Opened::Ready(next),
             n: later(self.n, x[0]),
         }
     }
 
     // The ride after a line.
-    fn after(mut self, line: Line) -> Ride {
+    fn after(self, line: Line) -> Ride {
         let first = line.first;
         let x = line.numbers;
+        let card = line.card;
         match first {
-            b'=' => {
-                let card = line.card;
-                self.card = card;
-                self
-            }
-            b'r' => {
-                let card = self.card;
-                read(card, small(x[0]));
-                self
-            }
-            b'o' => self.open(small(x[0])),
+            b'o' => opening(card, small(x[0])),
             b't' => self.tick(x[0]),
             b'0'..=b'9' => self.run(line),
-            _ => {
-                if is_title(first) {
-                    io::write_all(1, b"\n");
-                }
-                self
-            }
+            _ => self,
         }
+    }
+}
+
+// What a line that is not of a ride writes at its end.
+fn end(line: Line) {
+    let first = line.first;
+    let x = line.numbers;
+    let card = line.card;
+    if first == b'r' {
+        read(card, small(x[0]));
+    }
+    if is_title(first) {
+        io::write_all(1, b"\n");
     }
 }
 
 fn run(text: &[u8]) {
     let mut ride = Ride {
-        card: [0; 44],
         opened: Opened::Refused(Refusal::Number(0)),
         n: 0,
     };
-    let mut line = Line::empty();
+    let mut line = Line::empty([0; 44]);
     let mut i = 0;
     while i < text.len() {
         let b = text[i];
         if b == b'\n' {
+            end(line);
             ride = ride.after(line);
-            line = Line::empty();
+            let card = line.card;
+            line = Line::empty(card);
         } else {
             line = line.next(b);
         }
