@@ -1,0 +1,231 @@
+// What the programs of the bench share: words and numbers on standard output, the file that a program's argument names,
+// lines of standard input, and the bit pattern of a float.
+//
+// No public function has a `requires`. No contract can say what is read or written, so the functions that only write have
+// none; a count of bytes read lies within the buffer that was lent for them.
+ghost use mathlib.Core.Path.{_≡_};
+ghost use Prim.Native.Nat.{_≤_};
+ghost use lib.ListN.{length};
+ghost use lib.Ieee.{binary32, toBits};
+ghost use Rattle.io.specs.Counts.{Counts};
+use leaf::Refusal;
+
+// An argument of any length fits: the system hands a program no longer one.
+const NAME_MOST: usize = 131072;
+
+// What the end of the input counts as among bytes.
+const END: u16 = 256;
+
+const NEWLINE: u16 = 10;
+
+const RETURN: u8 = 13;
+
+// ---- writing
+
+pub fn say(words: &[u8]) {
+    io::write_all(1, words);
+}
+
+pub fn number(n: u64) {
+    io::print_decimal(1, n);
+}
+
+// A number of tenths, with its one decimal.
+pub fn tenths(n: u16) {
+    io::print_decimal(1, (n / 10) as u64);
+    io::write_all(1, b".");
+    io::print_decimal(1, (n % 10) as u64);
+}
+
+// A number of hundredths, with both decimals.
+pub fn hundredths(n: u16) {
+    io::print_decimal(1, (n / 100) as u64);
+    io::write_all(1, b".");
+    io::print_decimal(1, (n / 10 % 10) as u64);
+    io::print_decimal(1, (n % 10) as u64);
+}
+
+// The eight hexadecimal digits of a bit pattern.
+pub fn pattern(bits: u32) {
+    io::print_hex(1, bits as u64, 8);
+}
+
+// `refused N`, or `refused N at PLACE`.
+pub fn refusal(why: Refusal) {
+    io::write_all(1, b"refused ");
+    match why {
+        Refusal::Number(n) => {
+            io::print_decimal(1, n as u64);
+        }
+        Refusal::At(n, place) => {
+            io::print_decimal(1, n as u64);
+            io::write_all(1, b" at ");
+            io::print_decimal(1, place as u64);
+        }
+    }
+}
+
+// ---- the bit pattern of a float
+
+// For a NaN, which has many, 7fc00000.
+pub fn bits_of(x: f32) -> u32
+    ensures { λ r. ⌜ r ≡ toBits binary32 x ⌝ }
+{
+    if x == x { f32::to_bits(x) } else { 0x7fc0_0000 }
+}
+
+// ---- the file that the argument names
+
+// Whether a file was read, and how many bytes of it stand at the start of the buffer.
+pub struct File {
+    pub is_read: bool,
+    pub length: usize,
+}
+
+// The file that the program's one argument names, from its first byte to its end or as far as buf goes. Where there is no
+// argument, or more than one, the usage line is written, and where the file cannot be opened or read `cannot read` and
+// its name; then no file is read and the length is 0.
+pub fn argument_file(usage: &[u8], buf: &mut [u8]) -> File
+    ensures { λ r. ⌜ Counts (r .length) (now (buf .exit)) ⌝ }
+{
+    if os::arg_count() != 2 {
+        io::write_all(1, usage);
+        return no_file();
+    }
+    named_file(buf)
+}
+
+fn no_file() -> File
+    ensures { λ r. ⌜ r .length ≡ 0 ⌝ }
+{
+    File {
+        is_read: false,
+        length: 0,
+    }
+}
+
+fn named_file(buf: &mut [u8]) -> File
+    ensures { λ r. ⌜ Counts (r .length) (now (buf .exit)) ⌝ }
+{
+    let mut name = [0u8; NAME_MOST];
+    let n = os::arg(1, &mut name);
+    let fd = os::open_read(&name[..n]);
+    let file = opened_file(fd, buf);
+    if !file.is_read {
+        io::write_all(1, b"cannot read ");
+        io::write_all(1, &name[..n]);
+        io::write_all(1, b"\n");
+    }
+    file
+}
+
+fn opened_file(fd: i32, buf: &mut [u8]) -> File
+    ensures { λ r. ⌜ Counts (r .length) (now (buf .exit)) ⌝ }
+{
+    if fd < 0 {
+        return no_file();
+    }
+    let file = read_file(fd, buf);
+    libc::close(fd);
+    file
+}
+
+fn read_file(fd: i32, buf: &mut [u8]) -> File
+    ensures { λ r. ⌜ Counts (r .length) (now (buf .exit)) ⌝ }
+{
+    let mut done = 0;
+    while done < buf.len() {
+        let some = read_some(fd, &mut buf[done..]);
+        if !some.is_read {
+            return no_file();
+        }
+        if some.length == 0 {
+            break;
+        }
+        done += some.length;
+    }
+    File {
+        is_read: true,
+        length: done,
+    }
+}
+
+fn read_some(fd: i32, part: &mut [u8]) -> File
+    ensures { λ r. ⌜ Counts (r .length) (now (part .exit)) ⌝ }
+{
+    let got = libc::read(fd, part);
+    if got < 0 {
+        return no_file();
+    }
+    File {
+        is_read: true,
+        length: io::count(got, part),
+    }
+}
+
+// ---- lines of standard input
+
+// How many bytes of a line stand at the start of the buffer, and whether there was one at all.
+pub struct Line {
+    pub is_there: bool,
+    pub length: usize,
+}
+
+// The next line of standard input without its end, LF or CR LF. Of a line that is longer than the buffer the rest is
+// passed over. There is none where the input has ended.
+pub fn read_line(line: &mut [u8]) -> Line
+    ensures { λ r. ⌜ Counts (r .length) (now (line .exit)) ⌝ }
+{
+    let mut n = 0;
+    let mut turns = u64::MAX;
+    let mut byte = next_byte();
+    let is_there = byte != END;
+    while turns > 0 && !ends_line(byte) {
+        n = put_byte(line, n, leaf::low(byte));
+        byte = next_byte();
+        turns -= 1;
+    }
+    Line {
+        is_there,
+        length: before_return(line, n),
+    }
+}
+
+// The byte behind the line's first n, where there is room for it: how many there are then.
+fn put_byte(line: &mut [u8], n: usize, byte: u8) -> usize
+    requires { ⌜ n ≤ length (now line) ⌝ }
+    ensures { λ r. ⌜ r ≤ length (now (line .exit)) ⌝ }
+{
+    if n < line.len() {
+        line[n] = byte;
+        return n + 1;
+    }
+    n
+}
+
+fn ends_line(byte: u16) -> bool {
+    (byte == END) | (byte == NEWLINE)
+}
+
+// n, or one less where the last of the first n bytes is a carriage return.
+fn before_return(line: &[u8], n: usize) -> usize
+    ensures { λ r. ⌜ r ≤ n ⌝ }
+{
+    if n == 0 {
+        return 0;
+    }
+    if leaf::byte_at(line, n - 1) == RETURN {
+        n - 1
+    } else {
+        n
+    }
+}
+
+// The next byte of standard input, 256 at its end.
+fn next_byte() -> u16 {
+    let mut one = [0u8; 1];
+    if io::read_full(0, &mut one) == 0 {
+        return END;
+    }
+    leaf::byte_at(&one, 0) as u16
+}
