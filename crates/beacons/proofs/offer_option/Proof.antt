@@ -3,12 +3,6 @@ use Rattle.beacons.proofs.offer_option.Statement.{statement}
 use Rattle.beacons.proofs.offer_option.Tie as tie
 use Rattle.beacons.specs.Beacons.{optionOffered}
 
-opened-requires : tie.Need-opened-requires
-opened-requires c κs = search needs
-
-with-option-requires : tie.Need-with-option-requires
-with-option-requires c κs = search needs
-
 returns : tie.Need-returns
 unfolding optionOffered
 returns c = simp (c .with-option .ensures, c .before .opened .ensures, c .before .before .if1 .taken)
@@ -18,4 +12,4 @@ unfolding optionOffered
 returns-2 c = simp (c .if1 .left)
 
 pub offer-option-spec : {M : Type 1} → statement M
-offer-option-spec = tie.close (tie.spec opened-requires with-option-requires returns returns-2)
+offer-option-spec = tie.close (tie.spec (λ c κs. search needs) (λ c κs. search needs) returns returns-2)

@@ -4,36 +4,6 @@ use Rattle.beacons.proofs.read.Tie as tie
 use borrow.Author.Tests.{ne-eqb}
 use Rattle.beacons.specs.Beacons.{readingOf}
 
-read-1-requires : tie.Need-read-1-requires
-read-1-requires c κs = search needs
-
-read-row-requires : tie.Need-read-row-requires
-read-row-requires c κs = search needs
-
-read-3-requires : tie.Need-read-3-requires
-read-3-requires c κs = search needs
-
-read-4-requires : tie.Need-read-4-requires
-read-4-requires c κs = search needs
-
-read-row-requires-2 : tie.Need-read-row-requires-2
-read-row-requires-2 c κs = search needs
-
-read-row-requires-3 : tie.Need-read-row-requires-3
-read-row-requires-3 c κs = search needs
-
-read-7-requires : tie.Need-read-7-requires
-read-7-requires c κs = search needs
-
-read-8-requires : tie.Need-read-8-requires
-read-8-requires c κs = search needs
-
-read-9-requires : tie.Need-read-9-requires
-read-9-requires c κs = search needs
-
-read-limit-requires : tie.Need-read-limit-requires
-read-limit-requires c κs = search needs
-
 returns : tie.Need-returns
 unfolding readingOf
 returns c = simp (c .read-1 .ensures, c .before .match .keys1)
@@ -77,24 +47,7 @@ returns-10 c = simp (c .read-limit .ensures, ne-eqb _ _ (c .before .match .rest 
 pub read-spec : {M : Type 1} → statement M
 read-spec =
     tie.close
-    (tie.spec
-    read-1-requires
-    read-row-requires
-    read-3-requires
-    read-4-requires
-    read-row-requires-2
-    read-row-requires-3
-    read-7-requires
-    read-8-requires
-    read-9-requires
-    read-limit-requires
-    returns
-    returns-2
-    returns-3
-    returns-4
-    returns-5
-    returns-6
-    returns-7
-    returns-8
-    returns-9
-    returns-10)
+    (tie.spec (λ c κs. search needs) (λ c κs. search needs) (λ c κs. search needs) (λ c κs. search needs)
+    (λ c κs. search needs) (λ c κs. search needs) (λ c κs. search needs) (λ c κs. search needs)
+    (λ c κs. search needs) (λ c κs. search needs) returns returns-2 returns-3 returns-4 returns-5 returns-6
+    returns-7 returns-8 returns-9 returns-10)

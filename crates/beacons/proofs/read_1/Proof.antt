@@ -3,15 +3,9 @@ use Rattle.beacons.proofs.read_1.Statement.{statement}
 use Rattle.beacons.proofs.read_1.Tie as tie
 use Rattle.beacons.specs.Beacons.{reading1}
 
-count-main-requires : tie.Need-count-main-requires
-count-main-requires c κs = search needs
-
-open-main-requires : tie.Need-open-main-requires
-open-main-requires c κs = search needs
-
 returns : tie.Need-returns
 unfolding reading1
 returns c = simp (c .open-main .ensures, c .before .count-main .ensures)
 
 pub read-1-spec : {M : Type 1} → statement M
-read-1-spec = tie.close (tie.spec count-main-requires open-main-requires returns)
+read-1-spec = tie.close (tie.spec (λ c κs. search needs) (λ c κs. search needs) returns)

@@ -3,15 +3,9 @@ use Rattle.beacons.proofs.read_8.Statement.{statement}
 use Rattle.beacons.proofs.read_8.Tie as tie
 use Rattle.beacons.specs.Beacons.{reading8}
 
-count-main-requires : tie.Need-count-main-requires
-count-main-requires c κs = search needs
-
-stop-requires : tie.Need-stop-requires
-stop-requires c κs = search needs
-
 returns : tie.Need-returns
 unfolding reading8
 returns c = simp (c .stop .ensures, c .before .count-main .ensures)
 
 pub read-8-spec : {M : Type 1} → statement M
-read-8-spec = tie.close (tie.spec count-main-requires stop-requires returns)
+read-8-spec = tie.close (tie.spec (λ c κs. search needs) (λ c κs. search needs) returns)

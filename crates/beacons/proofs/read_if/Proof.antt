@@ -3,9 +3,6 @@ use Rattle.beacons.proofs.read_if.Statement.{statement}
 use Rattle.beacons.proofs.read_if.Tie as tie
 use Rattle.beacons.specs.Beacons.{readIf}
 
-read-requires : tie.Need-read-requires
-read-requires c κs = search needs
-
 returns : tie.Need-returns
 unfolding readIf
 returns c = simp (c .read .ensures, c .before .if1 .taken)
@@ -15,4 +12,4 @@ unfolding readIf
 returns-2 c = simp (c .if1 .left)
 
 pub read-if-spec : {M : Type 1} → statement M
-read-if-spec = tie.close (tie.spec read-requires returns returns-2)
+read-if-spec = tie.close (tie.spec (λ c κs. search needs) returns returns-2)

@@ -4,12 +4,6 @@ use Rattle.buttons.proofs.answer_by.Tie as tie
 use mathlib.Core.Path.{sym}
 use Rattle.buttons.specs.Buttons.{answeredBy}
 
-asks-requires : tie.Need-asks-requires
-asks-requires c κs = search needs
-
-choose-requires : tie.Need-choose-requires
-choose-requires c κs = search needs
-
 returns : tie.Need-returns
 unfolding answeredBy
 returns c = simp (c .choose .ensures, c .before .if1 .taken, sym (c .before .before .asks .ensures))
@@ -19,4 +13,4 @@ unfolding answeredBy
 returns-2 c = simp (c .if1 .left, sym (c .before .asks .ensures))
 
 pub answer-by-spec : {M : Type 1} → statement M
-answer-by-spec = tie.close (tie.spec asks-requires choose-requires returns returns-2)
+answer-by-spec = tie.close (tie.spec (λ c κs. search needs) (λ c κs. search needs) returns returns-2)

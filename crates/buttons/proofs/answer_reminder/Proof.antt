@@ -3,12 +3,6 @@ use Rattle.buttons.proofs.answer_reminder.Statement.{statement}
 use Rattle.buttons.proofs.answer_reminder.Tie as tie
 use Rattle.buttons.specs.Buttons.{reminderAnswered}
 
-pressed-requires : tie.Need-pressed-requires
-pressed-requires c κs = search needs
-
-with-reminder-requires : tie.Need-with-reminder-requires
-with-reminder-requires c κs = search needs
-
 returns : tie.Need-returns
 unfolding reminderAnswered
 returns c = simp (c .with-reminder .ensures, c .before .pressed .ensures, c .before .before .if1 .taken)
@@ -19,4 +13,4 @@ returns-2 c = simp (c .if1 .left)
 
 pub answer-reminder-spec : {M : Type 1} → statement M
 answer-reminder-spec =
-    tie.close (tie.spec pressed-requires with-reminder-requires returns returns-2)
+    tie.close (tie.spec (λ c κs. search needs) (λ c κs. search needs) returns returns-2)

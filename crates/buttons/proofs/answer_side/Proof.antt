@@ -3,15 +3,6 @@ use Rattle.buttons.proofs.answer_side.Statement.{statement}
 use Rattle.buttons.proofs.answer_side.Tie as tie
 use Rattle.buttons.specs.Buttons.{sideAnswered}
 
-answer-by-requires : tie.Need-answer-by-requires
-answer-by-requires c κs = search needs
-
-closed-requires : tie.Need-closed-requires
-closed-requires c κs = search needs
-
-with-side-requires : tie.Need-with-side-requires
-with-side-requires c κs = search needs
-
 returns : tie.Need-returns
 unfolding sideAnswered
 returns c = simp (c .with-side .ensures, c .before .closed .ensures, c .before .before .answer-by .ensures, c .before .before .before .if1 .taken)
@@ -22,4 +13,4 @@ returns-2 c = simp (c .if1 .left)
 
 pub answer-side-spec : {M : Type 1} → statement M
 answer-side-spec =
-    tie.close (tie.spec answer-by-requires closed-requires with-side-requires returns returns-2)
+    tie.close (tie.spec (λ c κs. search needs) (λ c κs. search needs) (λ c κs. search needs) returns returns-2)

@@ -3,12 +3,6 @@ use Rattle.buttons.proofs.arm_override.Statement.{statement}
 use Rattle.buttons.proofs.arm_override.Tie as tie
 use Rattle.buttons.specs.Buttons.{overrideArmed}
 
-armed-now-requires : tie.Need-armed-now-requires
-armed-now-requires c κs = search needs
-
-with-armed-requires : tie.Need-with-armed-requires
-with-armed-requires c κs = search needs
-
 returns : tie.Need-returns
 unfolding overrideArmed
 returns c = simp (c .with-armed .ensures, c .before .armed-now .ensures, c .before .before .if1 .taken)
@@ -18,4 +12,4 @@ unfolding overrideArmed
 returns-2 c = simp (c .if1 .left)
 
 pub arm-override-spec : {M : Type 1} → statement M
-arm-override-spec = tie.close (tie.spec armed-now-requires with-armed-requires returns returns-2)
+arm-override-spec = tie.close (tie.spec (λ c κs. search needs) (λ c κs. search needs) returns returns-2)

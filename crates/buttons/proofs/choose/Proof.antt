@@ -4,21 +4,6 @@ use Rattle.buttons.proofs.choose.Tie as tie
 use Rattle.buttons.specs.Buttons.{chosen}
 use borrow.Author.Tests.{ne-eqb}
 
-take-over-requires : tie.Need-take-over-requires
-take-over-requires c κs = search needs
-
-take-over-requires-2 : tie.Need-take-over-requires-2
-take-over-requires-2 c κs = search needs
-
-take-over-requires-3 : tie.Need-take-over-requires-3
-take-over-requires-3 c κs = search needs
-
-set-unprotected-requires : tie.Need-set-unprotected-requires
-set-unprotected-requires c κs = search needs
-
-set-limit-requires : tie.Need-set-limit-requires
-set-limit-requires c κs = search needs
-
 returns : tie.Need-returns
 unfolding chosen
 returns c = simp (c .take-over .ensures, c .before .match .keys1)
@@ -46,15 +31,5 @@ returns-6 c = simp (ne-eqb _ _ (c .match .rest .1), ne-eqb _ _ (c .match .rest .
 pub choose-spec : {M : Type 1} → statement M
 choose-spec =
     tie.close
-    (tie.spec
-    take-over-requires
-    take-over-requires-2
-    take-over-requires-3
-    set-unprotected-requires
-    set-limit-requires
-    returns
-    returns-2
-    returns-3
-    returns-4
-    returns-5
-    returns-6)
+    (tie.spec (λ c κs. search needs) (λ c κs. search needs) (λ c κs. search needs) (λ c κs. search needs)
+    (λ c κs. search needs) returns returns-2 returns-3 returns-4 returns-5 returns-6)

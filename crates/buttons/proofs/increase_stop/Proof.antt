@@ -3,12 +3,6 @@ use Rattle.buttons.proofs.increase_stop.Statement.{statement}
 use Rattle.buttons.proofs.increase_stop.Tie as tie
 use Rattle.buttons.specs.Buttons.{stopIncreased}
 
-increase-requires : tie.Need-increase-requires
-increase-requires c κs = search needs
-
-with-main-requires : tie.Need-with-main-requires
-with-main-requires c κs = search needs
-
 returns : tie.Need-returns
 unfolding stopIncreased
 returns c = simp (c .with-main .ensures, c .before .increase .ensures, c .before .before .if1 .taken)
@@ -18,4 +12,4 @@ unfolding stopIncreased
 returns-2 c = simp (c .if1 .left)
 
 pub increase-stop-spec : {M : Type 1} → statement M
-increase-stop-spec = tie.close (tie.spec increase-requires with-main-requires returns returns-2)
+increase-stop-spec = tie.close (tie.spec (λ c κs. search needs) (λ c κs. search needs) returns returns-2)

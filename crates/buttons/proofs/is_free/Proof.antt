@@ -3,15 +3,9 @@ use Rattle.buttons.proofs.is_free.Statement.{statement}
 use Rattle.buttons.proofs.is_free.Tie as tie
 use Rattle.buttons.specs.Buttons.{freeFor}
 
-answers-requires : tie.Need-answers-requires
-answers-requires c κs = search needs
-
-answers-requires-2 : tie.Need-answers-requires-2
-answers-requires-2 c κs = search needs
-
 returns : tie.Need-returns
 unfolding freeFor
 returns c = simp (c .answers2 .ensures, c .before .answers .ensures)
 
 pub is-free-spec : {M : Type 1} → statement M
-is-free-spec = tie.close (tie.spec answers-requires answers-requires-2 returns)
+is-free-spec = tie.close (tie.spec (λ c κs. search needs) (λ c κs. search needs) returns)

@@ -3,12 +3,6 @@ use Rattle.buttons.proofs.press_hide.Statement.{statement}
 use Rattle.buttons.proofs.press_hide.Tie as tie
 use Rattle.buttons.specs.Buttons.{hidePressed}
 
-hide-requires : tie.Need-hide-requires
-hide-requires c κs = search needs
-
-with-limit-requires : tie.Need-with-limit-requires
-with-limit-requires c κs = search needs
-
 returns : tie.Need-returns
 unfolding hidePressed
 returns c = simp (c .with-limit .ensures, c .before .hide .ensures, c .before .before .if1 .taken)
@@ -18,4 +12,4 @@ unfolding hidePressed
 returns-2 c = simp (c .if1 .left)
 
 pub press-hide-spec : {M : Type 1} → statement M
-press-hide-spec = tie.close (tie.spec hide-requires with-limit-requires returns returns-2)
+press-hide-spec = tie.close (tie.spec (λ c κs. search needs) (λ c κs. search needs) returns returns-2)

@@ -3,12 +3,6 @@ use Rattle.buttons.proofs.remove_limit.Statement.{statement}
 use Rattle.buttons.proofs.remove_limit.Tie as tie
 use Rattle.buttons.specs.Buttons.{limitRemoved}
 
-none-requires : tie.Need-none-requires
-none-requires c κs = search needs
-
-with-limit-requires : tie.Need-with-limit-requires
-with-limit-requires c κs = search needs
-
 returns : tie.Need-returns
 unfolding limitRemoved
 returns c = simp (c .with-limit .ensures, c .before .none .ensures, c .before .before .if1 .taken)
@@ -18,4 +12,4 @@ unfolding limitRemoved
 returns-2 c = simp (c .if1 .left)
 
 pub remove-limit-spec : {M : Type 1} → statement M
-remove-limit-spec = tie.close (tie.spec none-requires with-limit-requires returns returns-2)
+remove-limit-spec = tie.close (tie.spec (λ c κs. search needs) (λ c κs. search needs) returns returns-2)

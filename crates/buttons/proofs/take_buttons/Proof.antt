@@ -3,9 +3,6 @@ use Rattle.buttons.proofs.take_buttons.Statement.{statement}
 use Rattle.buttons.proofs.take_buttons.Tie as tie
 use Rattle.buttons.specs.Buttons.{pressesOf}
 
-press-all-requires : tie.Need-press-all-requires
-press-all-requires c κs = search needs
-
 returns : tie.Need-returns
 unfolding pressesOf
 returns c = simp (c .if1 .taken)
@@ -15,4 +12,4 @@ unfolding pressesOf
 returns-2 c = simp (c .press-all .ensures, c .before .if1 .left)
 
 pub take-buttons-spec : {M : Type 1} → statement M
-take-buttons-spec = tie.close (tie.spec press-all-requires returns returns-2)
+take-buttons-spec = tie.close (tie.spec (λ c κs. search needs) returns returns-2)

@@ -3,18 +3,6 @@ use Rattle.buttons.proofs.use_option.Statement.{statement}
 use Rattle.buttons.proofs.use_option.Tie as tie
 use Rattle.buttons.specs.Buttons.{optionUsed}
 
-set-protected-requires : tie.Need-set-protected-requires
-set-protected-requires c κs = search needs
-
-with-crossing-requires : tie.Need-with-crossing-requires
-with-crossing-requires c κs = search needs
-
-none-requires : tie.Need-none-requires
-none-requires c κs = search needs
-
-with-option-requires : tie.Need-with-option-requires
-with-option-requires c κs = search needs
-
 returns : tie.Need-returns
 unfolding optionUsed
 returns c = simp (c .with-option .ensures, c .before .none .ensures, c .before .before .with-crossing .ensures, c .before .before .before .set-protected .ensures, c .before .before .before .before .if1 .taken)
@@ -26,10 +14,4 @@ returns-2 c = simp (c .if1 .left)
 pub use-option-spec : {M : Type 1} → statement M
 use-option-spec =
     tie.close
-    (tie.spec
-    set-protected-requires
-    with-crossing-requires
-    none-requires
-    with-option-requires
-    returns
-    returns-2)
+    (tie.spec (λ c κs. search needs) (λ c κs. search needs) (λ c κs. search needs) (λ c κs. search needs) returns returns-2)

@@ -3,12 +3,9 @@ use Rattle.curve.proofs.row_speed.Statement.{statement}
 use Rattle.curve.proofs.row_speed.Tie as tie
 use Rattle.curve.specs.Curve.{rowSpeed}
 
-curve-requires : tie.Need-curve-requires
-curve-requires c κs = search needs
-
 returns : tie.Need-returns
 unfolding rowSpeed
 returns c = simp (c .curve .ensures)
 
 pub row-speed-spec : {M : Type 1} → statement M
-row-speed-spec = tie.close (tie.spec curve-requires returns)
+row-speed-spec = tie.close (tie.spec (λ c κs. search needs) returns)

@@ -3,12 +3,6 @@ use Rattle.desk.proofs.clock.begin.Statement.{statement}
 use Rattle.desk.proofs.clock.begin.Tie as tie
 use Rattle.desk.specs.Clock.{begun}
 
-advance-requires : tie.Need-advance-requires
-advance-requires c κs = search needs
-
-change-mode-requires : tie.Need-change-mode-requires
-change-mode-requires c κs = search needs
-
 returns : tie.Need-returns
 unfolding begun
 returns c = simp (c .advance .ensures, c .before .if1 .taken)
@@ -18,4 +12,4 @@ unfolding begun
 returns-2 c = simp (c .change-mode .ensures, c .before .if1 .left)
 
 pub begin-spec : {M : Type 1} → statement M
-begin-spec = tie.close (tie.spec advance-requires change-mode-requires returns returns-2)
+begin-spec = tie.close (tie.spec (λ c κs. search needs) (λ c κs. search needs) returns returns-2)

@@ -4,12 +4,6 @@ use Rattle.desk.proofs.clock.count_main.Tie as tie
 use Rattle.desk.specs.Clock.{mainCounts}
 use mathlib.Core.Path.{sym}
 
-asks-requires : tie.Need-asks-requires
-asks-requires c κs = search needs
-
-take-over-requires : tie.Need-take-over-requires
-take-over-requires c κs = search needs
-
 returns : tie.Need-returns
 unfolding mainCounts
 returns c = simp (c .take-over .ensures, c .before .if1 .taken, sym (c .before .before .asks .ensures))
@@ -19,4 +13,4 @@ unfolding mainCounts
 returns-2 c = simp (c .if1 .left, sym (c .before .asks .ensures))
 
 pub count-main-spec : {M : Type 1} → statement M
-count-main-spec = tie.close (tie.spec asks-requires take-over-requires returns returns-2)
+count-main-spec = tie.close (tie.spec (λ c κs. search needs) (λ c κs. search needs) returns returns-2)

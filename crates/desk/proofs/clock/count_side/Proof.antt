@@ -4,12 +4,6 @@ use Rattle.desk.proofs.clock.count_side.Tie as tie
 use Rattle.desk.specs.Clock.{sideCounts}
 use mathlib.Core.Path.{sym}
 
-asks-requires : tie.Need-asks-requires
-asks-requires c κs = search needs
-
-set-unprotected-requires : tie.Need-set-unprotected-requires
-set-unprotected-requires c κs = search needs
-
 returns : tie.Need-returns
 unfolding sideCounts
 returns c = simp (c .set-unprotected .ensures, c .before .if1 .taken, sym (c .before .before .asks .ensures))
@@ -19,4 +13,4 @@ unfolding sideCounts
 returns-2 c = simp (c .if1 .left, sym (c .before .asks .ensures))
 
 pub count-side-spec : {M : Type 1} → statement M
-count-side-spec = tie.close (tie.spec asks-requires set-unprotected-requires returns returns-2)
+count-side-spec = tie.close (tie.spec (λ c κs. search needs) (λ c κs. search needs) returns returns-2)

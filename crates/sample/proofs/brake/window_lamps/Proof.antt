@@ -3,21 +3,6 @@ use Rattle.sample.proofs.brake.window_lamps.Statement.{statement}
 use Rattle.sample.proofs.brake.window_lamps.Tie as tie
 use Rattle.sample.specs.Brake.{windowLamps}
 
-waits-for-requires : tie.Need-waits-for-requires
-waits-for-requires c κs = search needs
-
-waits-for-requires-2 : tie.Need-waits-for-requires-2
-waits-for-requires-2 c κs = search needs
-
-lamp-if-requires : tie.Need-lamp-if-requires
-lamp-if-requires c κs = search needs
-
-either-requires : tie.Need-either-requires
-either-requires c κs = search needs
-
-either-requires-2 : tie.Need-either-requires-2
-either-requires-2 c κs = search needs
-
 returns : tie.Need-returns
 unfolding windowLamps
 returns c = simp (c .either2 .ensures, c .before .either .ensures, c .before .before .lamp-if .ensures, c .before .before .before .waits-for2 .ensures, c .before .before .before .before .waits-for .ensures)
@@ -25,10 +10,5 @@ returns c = simp (c .either2 .ensures, c .before .either .ensures, c .before .be
 pub window-lamps-spec : {M : Type 1} → statement M
 window-lamps-spec =
     tie.close
-    (tie.spec
-    waits-for-requires
-    waits-for-requires-2
-    lamp-if-requires
-    either-requires
-    either-requires-2
-    returns)
+    (tie.spec (λ c κs. search needs) (λ c κs. search needs) (λ c κs. search needs) (λ c κs. search needs)
+    (λ c κs. search needs) returns)

@@ -1,31 +1,7 @@
 use borrow.Author.Needs.{needs}
 use Rattle.sample.proofs.speed.supervised.Statement.{statement}
 use Rattle.sample.proofs.speed.supervised.Tie as tie
-use Rattle.sample.specs.Speed.{leastIf, supervisedOf, signalsLeast}
-
-signals-least-requires : tie.Need-signals-least-requires
-signals-least-requires c κs = search needs
-
-row-speed-requires : tie.Need-row-speed-requires
-row-speed-requires c κs = search needs
-
-speed-requires : tie.Need-speed-requires
-speed-requires c κs = search needs
-
-is-standing-requires : tie.Need-is-standing-requires
-is-standing-requires c κs = search needs
-
-least-if-requires : tie.Need-least-if-requires
-least-if-requires c κs = search needs
-
-row-speed-requires-2 : tie.Need-row-speed-requires-2
-row-speed-requires-2 c κs = search needs
-
-speed-requires-2 : tie.Need-speed-requires-2
-speed-requires-2 c κs = search needs
-
-least-if-requires-2 : tie.Need-least-if-requires-2
-least-if-requires-2 c κs = search needs
+use Rattle.sample.specs.Speed.{leastIf, signalsLeast, supervisedOf}
 
 returns : tie.Need-returns
 unfolding supervisedOf signalsLeast leastIf
@@ -38,13 +14,5 @@ returns c =
 pub supervised-spec : {M : Type 1} → statement M
 supervised-spec =
     tie.close
-    (tie.spec
-    signals-least-requires
-    row-speed-requires
-    speed-requires
-    is-standing-requires
-    least-if-requires
-    row-speed-requires-2
-    speed-requires-2
-    least-if-requires-2
-    returns)
+    (tie.spec (λ c κs. search needs) (λ c κs. search needs) (λ c κs. search needs) (λ c κs. search needs)
+    (λ c κs. search needs) (λ c κs. search needs) (λ c κs. search needs) (λ c κs. search needs) returns)

@@ -3,15 +3,6 @@ use Rattle.session.proofs.Session.is_inside.Statement.{statement}
 use Rattle.session.proofs.Session.is_inside.Tie as tie
 use Rattle.session.specs.Session.{insideOf}
 
-settings-inside-requires : tie.Need-settings-inside-requires
-settings-inside-requires c κs = search needs
-
-type-allowed-requires : tie.Need-type-allowed-requires
-type-allowed-requires c κs = search needs
-
-desk-inside-requires : tie.Need-desk-inside-requires
-desk-inside-requires c κs = search needs
-
 returns : tie.Need-returns
 unfolding insideOf
 returns c = simp (c .desk-inside .ensures, c .before .type-allowed .ensures, c .before .before .settings-inside .ensures)
@@ -19,4 +10,4 @@ returns c = simp (c .desk-inside .ensures, c .before .type-allowed .ensures, c .
 pub is-inside-spec : {M : Type 1} → statement M
 is-inside-spec =
     tie.close
-    (tie.spec settings-inside-requires type-allowed-requires desk-inside-requires returns)
+    (tie.spec (λ c κs. search needs) (λ c κs. search needs) (λ c κs. search needs) returns)

@@ -4,21 +4,6 @@ use Rattle.session.proofs.Session.open.Tie as tie
 use Rattle.session.specs.Session.{openSession}
 use mathlib.Core.Path.{sym}
 
-check-requires : tie.Need-check-requires
-check-requires c κs = search needs
-
-type-allowed-requires : tie.Need-type-allowed-requires
-type-allowed-requires c κs = search needs
-
-enum-known-checked : tie.Need-enum-known-checked
-enum-known-checked c = search needs
-
-enum-told : tie.Need-enum-told
-enum-told c = search needs
-
-fresh-requires : tie.Need-fresh-requires
-fresh-requires c κs = search needs
-
 returns : tie.Need-returns
 unfolding openSession
 returns c = simp (c .before .checked .given .1, sym (c .before .before .before .type-allowed .ensures), sym (c .before .before .before .before .check .ensures))
@@ -34,12 +19,5 @@ returns-3 c = simp (c .if1 .left, c .before .enum-told .given .1, sym (c .before
 pub open-spec : {M : Type 1} → statement M
 open-spec =
     tie.close
-    (tie.spec
-    check-requires
-    type-allowed-requires
-    enum-known-checked
-    enum-told
-    fresh-requires
-    returns
-    returns-2
-    returns-3)
+    (tie.spec (λ c κs. search needs) (λ c κs. search needs) (λ c. search needs) (λ c. search needs) (λ c κs. search needs)
+    returns returns-2 returns-3)

@@ -4,15 +4,6 @@ use Rattle.sides.proofs.crossing.Crossing.older.Tie as tie
 use Rattle.sides.specs.Crossing.{crossingOlder}
 use mathlib.Core.Path.{sym}
 
-older-requires : tie.Need-older-requires
-older-requires c κs = search needs
-
-further-requires : tie.Need-further-requires
-further-requires c κs = search needs
-
-none-requires : tie.Need-none-requires
-none-requires c κs = search needs
-
 returns : tie.Need-returns
 unfolding crossingOlder
 returns c = simp (c .none .ensures, c .before .if1 .taken, sym (c .before .before .further .ensures), sym (c .before .before .before .older .ensures))
@@ -22,4 +13,4 @@ unfolding crossingOlder
 returns-2 c = simp (c .before .if1 .left, sym (c .before .before .further .ensures), sym (c .before .before .before .older .ensures))
 
 pub older-spec : {M : Type 1} → statement M
-older-spec = tie.close (tie.spec older-requires further-requires none-requires returns returns-2)
+older-spec = tie.close (tie.spec (λ c κs. search needs) (λ c κs. search needs) (λ c κs. search needs) returns returns-2)

@@ -4,18 +4,9 @@ use Rattle.sides.proofs.crossing.Crossing.set_protected.Tie as tie
 use Rattle.sides.specs.Crossing.{protectedSet}
 use mathlib.Core.Path.{sym}
 
-is-unprotected-requires : tie.Need-is-unprotected-requires
-is-unprotected-requires c κs = search needs
-
-is-protected-requires : tie.Need-is-protected-requires
-is-protected-requires c κs = search needs
-
 returns : tie.Need-returns
 unfolding protectedSet
 returns c = simp (c .if1 .taken, sym (c .before .is-protected .ensures), sym (c .before .before .is-unprotected .ensures))
-
-choose16-requires : tie.Need-choose16-requires
-choose16-requires c κs = search needs
 
 returns-2 : tie.Need-returns-2
 unfolding protectedSet
@@ -24,4 +15,4 @@ returns-2 c = simp (c .before .choose16 .ensures, c .before .before .if1 .left, 
 pub set-protected-spec : {M : Type 1} → statement M
 set-protected-spec =
     tie.close
-    (tie.spec is-unprotected-requires is-protected-requires returns choose16-requires returns-2)
+    (tie.spec (λ c κs. search needs) (λ c κs. search needs) returns (λ c κs. search needs) returns-2)

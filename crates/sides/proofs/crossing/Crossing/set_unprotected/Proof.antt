@@ -3,15 +3,9 @@ use Rattle.sides.proofs.crossing.Crossing.set_unprotected.Statement.{st
 use Rattle.sides.proofs.crossing.Crossing.set_unprotected.Tie as tie
 use Rattle.sides.specs.Crossing.{unprotectedSet}
 
-is-unprotected-requires : tie.Need-is-unprotected-requires
-is-unprotected-requires c κs = search needs
-
-choose16-requires : tie.Need-choose16-requires
-choose16-requires c κs = search needs
-
 returns : tie.Need-returns
 unfolding unprotectedSet
 returns c = simp (c .choose16 .ensures, c .before .is-unprotected .ensures)
 
 pub set-unprotected-spec : {M : Type 1} → statement M
-set-unprotected-spec = tie.close (tie.spec is-unprotected-requires choose16-requires returns)
+set-unprotected-spec = tie.close (tie.spec (λ c κs. search needs) (λ c κs. search needs) returns)

@@ -4,12 +4,6 @@ use Rattle.sides.proofs.crossing.Crossing.turned.Tie as tie
 use mathlib.Core.Path.{sym}
 use Rattle.sides.specs.Crossing.{turnedAt, turnsAt}
 
-is-protected-requires : tie.Need-is-protected-requires
-is-protected-requires c κs = search needs
-
-below-requires : tie.Need-below-requires
-below-requires c κs = search needs
-
 returns : tie.Need-returns
 unfolding turnedAt turnsAt
 returns c = simp (c .if1 .taken, sym (c .before .below .ensures), sym (c .before .before .is-protected .ensures))
@@ -19,4 +13,4 @@ unfolding turnedAt turnsAt
 returns-2 c = simp (c .if1 .left, sym (c .before .below .ensures), sym (c .before .before .is-protected .ensures))
 
 pub turned-spec : {M : Type 1} → statement M
-turned-spec = tie.close (tie.spec is-protected-requires below-requires returns returns-2)
+turned-spec = tie.close (tie.spec (λ c κs. search needs) (λ c κs. search needs) returns returns-2)

@@ -2,11 +2,8 @@ use borrow.Author.Needs.{needs}
 use Rattle.sides.proofs.limit.Limit.step.Statement.{statement}
 use Rattle.sides.proofs.limit.Limit.step.Tie as tie
 
-one-more-requires : tie.Need-one-more-requires
-one-more-requires c κs = search needs
-
 returns : tie.Need-returns
 returns c = simp (c .one-more .ensures)
 
 pub step-spec : {M : Type 1} → statement M
-step-spec = tie.close (tie.spec one-more-requires returns)
+step-spec = tie.close (tie.spec (λ c κs. search needs) returns)

@@ -3,12 +3,9 @@ use Rattle.signals.proofs.control.Main.increase_lit.Statement.{statemen
 use Rattle.signals.proofs.control.Main.increase_lit.Tie as tie
 use Rattle.signals.specs.MainControl.{increaseLit}
 
-is-stop-requires : tie.Need-is-stop-requires
-is-stop-requires c κs = search needs
-
 returns : tie.Need-returns
 unfolding increaseLit
 returns c = simp (c .before .before .is-stop .ensures)
 
 pub increase-lit-spec : {M : Type 1} → statement M
-increase-lit-spec = tie.close (tie.spec is-stop-requires returns)
+increase-lit-spec = tie.close (tie.spec (λ c κs. search needs) returns)

@@ -3,12 +3,9 @@ use Rattle.signals.proofs.control.Main.may_increase.Statement.{statemen
 use Rattle.signals.proofs.control.Main.may_increase.Tie as tie
 use Rattle.signals.specs.MainControl.{mayIncrease}
 
-is-stop-requires : tie.Need-is-stop-requires
-is-stop-requires c κs = search needs
-
 returns : tie.Need-returns
 unfolding mayIncrease
 returns c = simp (c .before .before .before .is-stop .ensures)
 
 pub may-increase-spec : {M : Type 1} → statement M
-may-increase-spec = tie.close (tie.spec is-stop-requires returns)
+may-increase-spec = tie.close (tie.spec (λ c κs. search needs) returns)

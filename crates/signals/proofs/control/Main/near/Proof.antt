@@ -3,12 +3,9 @@ use Rattle.signals.proofs.control.Main.near.Statement.{statement}
 use Rattle.signals.proofs.control.Main.near.Tie as tie
 use Rattle.signals.specs.MainControl.{nearOf}
 
-is-before-stop-requires : tie.Need-is-before-stop-requires
-is-before-stop-requires c κs = search needs
-
 returns : tie.Need-returns
 unfolding nearOf
 returns c = simp (c .before .is-before-stop .ensures)
 
 pub near-spec : {M : Type 1} → statement M
-near-spec = tie.close (tie.spec is-before-stop-requires returns)
+near-spec = tie.close (tie.spec (λ c κs. search needs) returns)

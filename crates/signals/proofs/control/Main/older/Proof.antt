@@ -3,15 +3,9 @@ use Rattle.signals.proofs.control.Main.older.Statement.{statement}
 use Rattle.signals.proofs.control.Main.older.Tie as tie
 use Rattle.signals.specs.MainControl.{mainOlder}
 
-older-requires : tie.Need-older-requires
-older-requires c κs = search needs
-
-further-requires : tie.Need-further-requires
-further-requires c κs = search needs
-
 returns : tie.Need-returns
 unfolding mainOlder
 returns c = simp (c .further .ensures, c .before .older .ensures)
 
 pub older-spec : {M : Type 1} → statement M
-older-spec = tie.close (tie.spec older-requires further-requires returns)
+older-spec = tie.close (tie.spec (λ c κs. search needs) (λ c κs. search needs) returns)

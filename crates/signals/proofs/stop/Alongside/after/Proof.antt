@@ -4,12 +4,6 @@ use Rattle.signals.proofs.stop.Alongside.after.Tie as tie
 use mathlib.Core.Path.{sym}
 use Rattle.signals.specs.Stop.{alongsideAfter}
 
-is-stop-requires : tie.Need-is-stop-requires
-is-stop-requires c κs = search needs
-
-starts-requires : tie.Need-starts-requires
-starts-requires c κs = search needs
-
 returns : tie.Need-returns
 unfolding alongsideAfter
 returns c = simp (c .starts .ensures, c .before .if1 .taken, sym (c .before .before .is-stop .ensures))
@@ -19,4 +13,4 @@ unfolding alongsideAfter
 returns-2 c = simp (c .if1 .left, sym (c .before .is-stop .ensures))
 
 pub after-spec : {M : Type 1} → statement M
-after-spec = tie.close (tie.spec is-stop-requires starts-requires returns returns-2)
+after-spec = tie.close (tie.spec (λ c κs. search needs) (λ c κs. search needs) returns returns-2)

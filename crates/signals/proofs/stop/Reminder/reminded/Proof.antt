@@ -4,31 +4,13 @@ use Rattle.signals.proofs.stop.Reminder.reminded.Tie as tie
 use Rattle.signals.specs.Stop.{remindedOf}
 use mathlib.Core.Path.{sym}
 
-missed-requires : tie.Need-missed-requires
-missed-requires c κs = search needs
-
-first-met-requires : tie.Need-first-met-requires
-first-met-requires c κs = search needs
-
-second-met-requires : tie.Need-second-met-requires
-second-met-requires c κs = search needs
-
-fresh-requires : tie.Need-fresh-requires
-fresh-requires c κs = search needs
-
 returns : tie.Need-returns
 unfolding remindedOf
 returns c = simp (c .fresh .ensures, c .before .if1 .taken, sym (c .before .before .second-met .ensures), sym (c .before .before .before .first-met .ensures), sym (c .before .before .before .before .missed .ensures))
 
-fresh-requires-2 : tie.Need-fresh-requires-2
-fresh-requires-2 c κs = search needs
-
 returns-2 : tie.Need-returns-2
 unfolding remindedOf
 returns-2 c = simp (c .fresh2 .ensures, c .before .if2 .taken, c .before .before .if1 .left, sym (c .before .before .before .second-met .ensures), sym (c .before .before .before .before .first-met .ensures), sym (c .before .before .before .before .before .missed .ensures))
-
-fresh-requires-3 : tie.Need-fresh-requires-3
-fresh-requires-3 c κs = search needs
 
 returns-3 : tie.Need-returns-3
 unfolding remindedOf
@@ -41,14 +23,5 @@ returns-4 c = simp (c .if3 .left, c .before .if2 .left, c .before .before .if1 .
 pub reminded-spec : {M : Type 1} → statement M
 reminded-spec =
     tie.close
-    (tie.spec
-    missed-requires
-    first-met-requires
-    second-met-requires
-    fresh-requires
-    returns
-    fresh-requires-2
-    returns-2
-    fresh-requires-3
-    returns-3
-    returns-4)
+    (tie.spec (λ c κs. search needs) (λ c κs. search needs) (λ c κs. search needs) (λ c κs. search needs) returns
+    (λ c κs. search needs) returns-2 (λ c κs. search needs) returns-3 returns-4)

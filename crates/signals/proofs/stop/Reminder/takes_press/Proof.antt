@@ -3,12 +3,9 @@ use Rattle.signals.proofs.stop.Reminder.takes_press.Statement.{statemen
 use Rattle.signals.proofs.stop.Reminder.takes_press.Tie as tie
 use Rattle.signals.specs.Stop.{takesPress}
 
-is-lit-requires : tie.Need-is-lit-requires
-is-lit-requires c κs = search needs
-
 returns : tie.Need-returns
 unfolding takesPress
 returns c = simp (c .before .is-lit .ensures)
 
 pub takes-press-spec : {M : Type 1} → statement M
-takes-press-spec = tie.close (tie.spec is-lit-requires returns)
+takes-press-spec = tie.close (tie.spec (λ c κs. search needs) returns)
