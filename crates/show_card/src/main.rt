@@ -157,16 +157,26 @@ fn show_behind(length: usize, record: u16) {
     say(b" bytes behind the record are not read\n");
 }
 
+// How long the area is that is too short for its record.
+fn show_length(n: u8, length: usize) {
+    if n == 1 {
+        say(b" (");
+        number(length as u64);
+        say(b" bytes)");
+    }
+}
+
 fn show_refusal(why: Refusal, length: usize) {
     shell::refusal(why);
     say(b": ");
     match why {
         Refusal::At(_, place) => say_place_name(place),
-        Refusal::Number(n) => say_reason(n),
+        Refusal::Number(n) => {
+            say_reason(n);
+            show_length(n, length);
+        }
     }
     say(b"\n");
-    number(length as u64);
-    say(b" bytes in the file\n");
 }
 
 fn show(area: &[u8]) {
