@@ -1,0 +1,3 @@
+pub mod Recording
+pub mod Ride
+pub mod Printed
