@@ -2,6 +2,5 @@
 //
 // No public function has a `requires`. Each ensures that its result, and every byte of a lent buffer, is what the
 // definition of specs/ that it names gives.
-pub mod printed;
 pub mod recording;
 pub mod ride;
