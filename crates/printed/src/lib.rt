@@ -12,7 +12,7 @@ use text::put_ended;
 use text::put_text;
 ghost use mathlib.Core.Path.{_≡_};
 ghost use mathlib.Core.List.{[], _∷_};
-ghost use Prim.Native.Nat.{min};
+ghost use Prim.Native.Nat.{min, _≤_};
 ghost use lib.ListN.{length};
 ghost use Rattle.leaf.specs.Bytes.{over};
 ghost use Rattle.card.specs.Reading.{paperOf};
@@ -151,6 +151,7 @@ fn put_ride(columns: Columns, card: &[u8], recording: &[u8], out: &mut [u8]) -> 
 pub fn print_heading(columns: Columns, out: &mut [u8]) -> usize
     ensures { λ r. ⌜ r ≡ min (length (heading columns)) (length (now (out .entry))) ⌝ }
     ensures { λ _. ⌜ now (out .exit) ≡ over (length (heading columns)) (heading columns) (now (out .entry)) ⌝ }
+    ensures { λ r. ⌜ r ≤ length (now (out .exit)) ⌝ }
 {
     put_heading(columns, out, 0)
 }
@@ -161,6 +162,7 @@ pub fn print_heading(columns: Columns, out: &mut [u8]) -> usize
 pub fn print_ride(columns: Columns, card: &[u8], recording: &[u8], out: &mut [u8]) -> usize
     ensures { λ r. ⌜ r ≡ min (length (printedRide columns (now (card .entry)) (now (recording .entry)))) (length (now (out .entry))) ⌝ }
     ensures { λ _. ⌜ now (out .exit) ≡ over (length (printedRide columns (now (card .entry)) (now (recording .entry)))) (printedRide columns (now (card .entry)) (now (recording .entry))) (now (out .entry)) ⌝ }
+    ensures { λ r. ⌜ r ≤ length (now (out .exit)) ⌝ }
 {
     put_ride(columns, card, recording, out)
 }
