@@ -1,6 +1,6 @@
 use borrow.Author.Needs.{needs}
-use Rattle.shell.proofs.print_below.Statement.{statement}
-use Rattle.shell.proofs.print_below.Tie as tie
+use Rattle.ride_shell.proofs.print_below.Statement.{statement}
+use Rattle.ride_shell.proofs.print_below.Tie as tie
 
 slice-aggregate-read-full : tie.Need-slice-aggregate-read-full
 slice-aggregate-read-full c = search needs

@@ -1,8 +1,8 @@
 use mathlib.Core.Path.{sym}
 use lib.Seq.{length-take-le}
 use borrow.Author.Needs.{needs}
-use Rattle.shell.proofs.print_named.Statement.{statement}
-use Rattle.shell.proofs.print_named.Tie as tie
+use Rattle.ride_shell.proofs.print_named.Statement.{statement}
+use Rattle.ride_shell.proofs.print_named.Tie as tie
 
 slice-aggregate-print-heading : tie.Need-slice-aggregate-print-heading
 slice-aggregate-print-heading c = search needs
