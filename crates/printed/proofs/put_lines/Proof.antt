@@ -1,0 +1,76 @@
+use Prim.Native.Nat.{_-_, _≤_}
+use native.Mathlib.Omega.{arith}
+use native.Mathlib.Numerals.{add-one}
+use mathlib.Core.Path.{_≡_, refl}
+use lib.ListN.{length}
+use borrow.Author.Needs.{needs}
+use Rattle.text.specs.Typing.{typed, then-typed}
+use Rattle.rides.specs.Ride.{rideAfter}
+use Rattle.printed.specs.Printed.{linesOf}
+use Rattle.printed.proofs.put_lines.Statement.{statement}
+use Rattle.printed.proofs.put_lines.Tie as tie
+
+abbrev Inv-loop : tie.InvT-loop
+Inv-loop columns recording n out₀ at place₀ going₀ k₀ out place going k = (k ≤ n) × (length out ≡ length out₀) × (going ≡ rideAfter going₀ recording k) × ((out, place) ≡ typed (linesOf columns going₀ recording k) (out₀, place₀))
+
+abbrev μ-loop : tie.MeasureT-loop
+μ-loop columns recording n out₀ at place₀ going₀ k₀ out place going k = n - k
+
+loop-holds : tie.Need-loop-holds Inv-loop μ-loop
+unfolding rideAfter linesOf typed
+loop-holds c = (omega arith, omega arith, refl, refl)
+
+turn-at-requires : tie.Need-turn-at-requires Inv-loop μ-loop
+turn-at-requires c κs = search needs
+
+cast-put-shown : tie.Need-cast-put-shown Inv-loop μ-loop
+cast-put-shown c = omega arith
+
+add-put-shown : tie.Need-add-put-shown Inv-loop μ-loop
+add-put-shown c = omega arith
+
+put-shown-requires : tie.Need-put-shown-requires Inv-loop μ-loop
+put-shown-requires c κs = search needs
+
+add-k : tie.Need-add-k Inv-loop μ-loop
+add-k c = omega arith
+
+loop-less : tie.Need-loop-less Inv-loop μ-loop
+loop-less c = omega arith
+
+loop-again : tie.Need-loop-again Inv-loop μ-loop
+unfolding rideAfter linesOf
+loop-again c =
+    let l = c .before .before .before .before .before .before .before .loop in
+    let turned = c .before .before .before .before .before .turn-at .ensures in (
+      omega arith,
+      omega arith,
+      rw (add-one, turned, l .inv .2),
+      rw add-one (then-typed _ _ _ (l .inv .3) (rw (add-one, turned, l .inv .2) at (c .before .before .before .put-shown .ensures))),
+    )
+
+same-length : tie.Need-same-length Inv-loop μ-loop
+same-length c = omega arith
+
+returns : tie.Need-returns Inv-loop μ-loop
+returns c =
+    let l = c .before .loop in
+    let e : l .k ≡ c .before .before .before .before .args .n = omega arith in
+    rw (← e) (l .inv .3)
+
+pub put-lines-spec : {M : Type 1} → statement M
+put-lines-spec =
+    tie.close
+    (tie.spec
+    Inv-loop
+    μ-loop
+    loop-holds
+    turn-at-requires
+    cast-put-shown
+    add-put-shown
+    put-shown-requires
+    add-k
+    loop-less
+    loop-again
+    same-length
+    returns)

@@ -1,0 +1,168 @@
+// The printed ride: a heading, a line a sample, and the line that ends a refused one, typed into a lent buffer.
+use card::Reading;
+use leaf::choose32;
+use rides::recording::samples;
+use rides::ride::Ride;
+use rides::ride::Shown;
+use rides::ride::number_of;
+use rides::ride::start;
+use sample::step::Answer;
+use session::Opened;
+use text::put_ended;
+use text::put_text;
+ghost use mathlib.Core.Path.{_≡_};
+ghost use mathlib.Core.List.{[], _∷_};
+ghost use Prim.Native.Nat.{min, _≤_};
+ghost use lib.ListN.{length};
+ghost use Rattle.leaf.specs.Bytes.{over};
+ghost use Rattle.card.specs.Reading.{paperOf};
+ghost use Rattle.session.specs.Session.{openedOf};
+ghost use Rattle.text.specs.Decimal.{line};
+ghost use Rattle.text.specs.Typing.{typed};
+ghost use Rattle.printed.specs.Printed.{heading, refusedLine, flagOf, columnsOf, shownText, linesOf, startedText, cardText, printedRide};
+
+const BLANK: u8 = 0x20;
+
+const NEWLINE: u8 = 0x0A;
+
+// Which columns are printed: sample number, S, lamps, cause; and with them icon and limit standing.
+pub enum Columns {
+    Four,
+    Six,
+}
+
+fn put_heading(columns: Columns, out: &mut [u8], at: usize) -> usize
+    ensures { λ r. ⌜ (now (out .exit), r) ≡ typed (heading columns) (now (out .entry), at) ⌝ }
+{
+    match columns {
+        Columns::Four => put_text(out, at, b"n limit lamps cause\n"),
+        Columns::Six => put_text(out, at, b"n limit lamps cause icon standing\n"),
+    }
+}
+
+fn put_refused(out: &mut [u8], at: usize, number: u8) -> usize
+    ensures { λ r. ⌜ (now (out .exit), r) ≡ typed (refusedLine number) (now (out .entry), at) ⌝ }
+{
+    let at = put_text(out, at, b"refused ");
+    put_ended(out, at, number as u32, NEWLINE)
+}
+
+fn flag(b: bool) -> u32
+    ensures { λ r. ⌜ r ≡ flagOf b ⌝ }
+{
+    choose32(b, 1, 0)
+}
+
+fn put_answer(columns: Columns, out: &mut [u8], at: usize, number: u32, a: Answer) -> usize
+    ensures { λ r. ⌜ (now (out .exit), r) ≡ typed (line number (columnsOf columns a)) (now (out .entry), at) ⌝ }
+{
+    let at = put_ended(out, at, number, BLANK);
+    let at = put_ended(out, at, a.speed, BLANK);
+    let at = put_ended(out, at, a.lamps as u32, BLANK);
+    match columns {
+        Columns::Four => put_ended(out, at, a.cause as u32, NEWLINE),
+        Columns::Six => {
+            let at = put_ended(out, at, a.cause as u32, BLANK);
+            let at = put_ended(out, at, a.icon as u32, BLANK);
+            put_ended(out, at, flag(a.limit), NEWLINE)
+        }
+    }
+}
+
+fn put_shown(columns: Columns, out: &mut [u8], at: usize, number: u32, shown: Shown) -> usize
+    ensures { λ r. ⌜ (now (out .exit), r) ≡ typed (shownText columns number shown) (now (out .entry), at) ⌝ }
+{
+    match shown {
+        Shown::Answered(a) => put_answer(columns, out, at, number, a),
+        Shown::Refused(n) => put_refused(out, at, n),
+        Shown::Nothing => at,
+    }
+}
+
+// The lines of the first n samples.
+fn put_lines(
+    columns: Columns,
+    ride: Ride,
+    recording: &[u8],
+    n: u16,
+    out: &mut [u8],
+    at: usize,
+) -> usize
+    ensures { λ r. ⌜ (now (out .exit), r) ≡ typed (linesOf columns ride (now (recording .entry)) n) (now (out .entry), at) ⌝ }
+{
+    let mut place = at;
+    let mut going = ride;
+    let mut k: u16 = 0;
+    while k < n {
+        let turned = going.turn_at(recording, k);
+        let shown = turned.shown;
+        place = put_shown(columns, out, place, (k as u32) + 1, shown);
+        going = turned.ride;
+        k += 1;
+    }
+    place
+}
+
+fn put_started(
+    columns: Columns,
+    opened: Opened,
+    recording: &[u8],
+    n: u16,
+    out: &mut [u8],
+    at: usize,
+) -> usize
+    ensures { λ r. ⌜ (now (out .exit), r) ≡ typed (startedText columns (now (recording .entry)) n (openedOf opened)) (now (out .entry), at) ⌝ }
+{
+    match opened {
+        Opened::Ready(session) => put_lines(columns, Ride::fresh(session), recording, n, out, at),
+        Opened::Refused(why) => put_refused(out, at, number_of(why)),
+    }
+}
+
+fn put_read(
+    columns: Columns,
+    reading: Reading,
+    recording: &[u8],
+    n: u16,
+    out: &mut [u8],
+    at: usize,
+) -> usize
+    ensures { λ r. ⌜ (now (out .exit), r) ≡ typed (cardText columns (now (recording .entry)) n (paperOf reading)) (now (out .entry), at) ⌝ }
+{
+    match reading {
+        Reading::Read(settings) => {
+            let opened = start(settings, recording);
+            put_started(columns, opened, recording, n, out, at)
+        }
+        Reading::Refused(why) => put_refused(out, at, number_of(why)),
+    }
+}
+
+fn put_ride(columns: Columns, card: &[u8], recording: &[u8], out: &mut [u8]) -> usize
+    ensures { λ r. ⌜ (now (out .exit), r) ≡ typed (printedRide columns (now (card .entry)) (now (recording .entry))) (now (out .entry), 0) ⌝ }
+{
+    let at = put_heading(columns, out, 0);
+    let reading = card::read(card, 2);
+    let n = samples(recording);
+    put_read(columns, reading, recording, n, out, at)
+}
+
+// The heading, at the buffer's start. Answers how many bytes of it the buffer now holds; the rest is as it was.
+pub fn print_heading(columns: Columns, out: &mut [u8]) -> usize
+    ensures { λ r. ⌜ r ≡ min (length (heading columns)) (length (now (out .entry))) ⌝ }
+    ensures { λ _. ⌜ now (out .exit) ≡ over (length (heading columns)) (heading columns) (now (out .entry)) ⌝ }
+    ensures { λ r. ⌜ r ≤ length (now (out .exit)) ⌝ }
+{
+    put_heading(columns, out, 0)
+}
+
+// The ride of this recording on this card as text, at the buffer's start: the heading, the card's refusal, 14, 7, or a line
+// a sample until one is refused. Answers how many bytes of it the buffer now holds: all, where there is room, else what
+// there is room for. The rest of the buffer is as it was.
+pub fn print_ride(columns: Columns, card: &[u8], recording: &[u8], out: &mut [u8]) -> usize
+    ensures { λ r. ⌜ r ≡ min (length (printedRide columns (now (card .entry)) (now (recording .entry)))) (length (now (out .entry))) ⌝ }
+    ensures { λ _. ⌜ now (out .exit) ≡ over (length (printedRide columns (now (card .entry)) (now (recording .entry)))) (printedRide columns (now (card .entry)) (now (recording .entry))) (now (out .entry)) ⌝ }
+    ensures { λ r. ⌜ r ≤ length (now (out .exit)) ⌝ }
+{
+    put_ride(columns, card, recording, out)
+}

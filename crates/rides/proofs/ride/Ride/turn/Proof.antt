@@ -1,0 +1,21 @@
+use borrow.Author.Needs.{needs}
+use Rattle.rides.proofs.ride.Ride.turn.Statement.{statement}
+use Rattle.rides.proofs.ride.Ride.turn.Tie as tie
+use Rattle.rides.specs.Ride.{turnOf}
+
+sample-requires : tie.Need-sample-requires
+sample-requires c κs = search needs
+
+told-requires : tie.Need-told-requires
+told-requires c κs = search needs
+
+returns : tie.Need-returns
+unfolding turnOf
+returns c = simp (c .told .ensures, c .before .before .sample .ensures, c .before .before .before .before .if1 .taken)
+
+returns-2 : tie.Need-returns-2
+unfolding turnOf
+returns-2 c = simp (c .if1 .left)
+
+pub turn-spec : {M : Type 1} → statement M
+turn-spec = tie.close (tie.spec sample-requires told-requires returns returns-2)

@@ -1,0 +1,6 @@
+// A ride, whole: recordings, running one, and the printed ride.
+//
+// No public function has a `requires`. Each ensures that its result, and every byte of a lent buffer, is what the
+// definition of specs/ that it names gives.
+pub mod recording;
+pub mod ride;

@@ -1,0 +1,119 @@
+// Running a ride: a session, and the samples of a recording one after the other, until one is refused.
+use crate::recording::is_good;
+use card::Settings;
+use leaf::Refusal;
+use leaf::byte_at;
+use leaf::word_at;
+use sample::step::Answer;
+use session::Opened;
+use session::Outcome;
+use session::Session;
+ghost use mathlib.Core.Path.{_≡_};
+ghost use Rattle.session.specs.Session.{openedOf};
+ghost use Rattle.rides.specs.Ride.{startRide, freshRide, numberOf, toldOf, turnOf, turnAt};
+
+// The session after the samples run, and the number of the refusal that ended the ride, 0 while none has.
+pub struct Ride {
+    pub session: Session,
+    pub ended: u8,
+}
+
+// What a turn shows: the sample's answer, or the number that refused it; nothing once the ride has ended.
+pub enum Shown {
+    Answered(Answer),
+    Refused(u8),
+    Nothing,
+}
+
+pub struct Turned {
+    pub ride: Ride,
+    pub shown: Shown,
+}
+
+// A refusal's number, without its place.
+pub fn number_of(why: Refusal) -> u8
+    ensures { λ r. ⌜ r ≡ numberOf why ⌝ }
+{
+    match why {
+        Refusal::Number(n) => n,
+        Refusal::At(n, _) => n,
+    }
+}
+
+// The session that a recording starts on these settings: 14, then what the opening refuses.
+pub fn start(settings: Settings, recording: &[u8]) -> Opened
+    ensures { λ r. ⌜ openedOf r ≡ startRide settings (now (recording .entry)) ⌝ }
+{
+    let good = is_good(recording);
+    let train = byte_at(recording, 5);
+    if good {
+        return Session::open(settings, train);
+    }
+    Opened::Refused(Refusal::Number(14))
+}
+
+fn told(session: Session, outcome: Outcome) -> Turned
+    ensures { λ r. ⌜ r ≡ toldOf session outcome ⌝ }
+{
+    match outcome {
+        Outcome::Answered(a) => Turned {
+            ride: Ride {
+                session: session,
+                ended: 0,
+            },
+            shown: Shown::Answered(a),
+        },
+        Outcome::Refused(why) => {
+            let n = number_of(why);
+            Turned {
+                ride: Ride {
+                    session: session,
+                    ended: n,
+                },
+                shown: Shown::Refused(n),
+            }
+        }
+    }
+}
+
+impl Ride {
+    // A ride before its first sample.
+    pub fn fresh(session: Session) -> Ride
+        ensures { λ r. ⌜ r ≡ freshRide session ⌝ }
+    {
+        Ride {
+            session: session,
+            ended: 0,
+        }
+    }
+
+    // One more sample. A ride that has ended stays as it is.
+    pub fn turn(self, pulses: u16, beacon: u8, buttons: u16, mode: u8) -> Turned
+        ensures { λ r. ⌜ r ≡ turnOf self pulses beacon buttons mode ⌝ }
+    {
+        let going = self.ended == 0;
+        if going {
+            let session = self.session;
+            let sampled = session.sample(pulses, beacon, buttons, mode);
+            let next = sampled.session;
+            let outcome = sampled.outcome;
+            return told(next, outcome);
+        }
+        Turned {
+            ride: self,
+            shown: Shown::Nothing,
+        }
+    }
+
+    // The turn of the recording's sample that k samples stand before. Past its end a byte reads as 0.
+    pub fn turn_at(self, recording: &[u8], k: u16) -> Turned
+        ensures { λ r. ⌜ r ≡ turnAt self (now (recording .entry)) k ⌝ }
+    {
+        let at = 6 + 6 * (k as u32);
+        let pulses = word_at(recording, at);
+        let beacon = byte_at(recording, at as usize + 2);
+        let buttons = word_at(recording, at + 3);
+        let mode = byte_at(recording, at as usize + 5);
+        self.turn(pulses, beacon, buttons, mode)
+    }
+}

@@ -1,0 +1,6 @@
+// trace CARD < RECORDING: prints the ride as `ride` does, with the crossing icon and whether the limit stands.
+use printed::Columns;
+
+fn main() {
+    ride_shell::main_with(Columns::Six, b"usage: trace CARD < RECORDING\n");
+}
