@@ -1,1 +1,5 @@
 pub mod Texts
+pub mod Room
+pub mod Silence
+pub mod End
+pub mod Examples
