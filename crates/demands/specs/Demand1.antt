@@ -6,9 +6,9 @@
 -- 7; sample 8, 9, 10, 11". For each kind of input: what is asked for is given where all its checks hold; a number, or place, that is given
 -- is that of the first that fails (`FirstFault`: it fails, and every one before it holds).
 use Prim.Native.Nat.{ℕ}
-use mathlib.Core.Bool.{true, false}
+use mathlib.Core.Bool.{Bool, true, false}
 use mathlib.Core.List.{List}
-use mathlib.Core.Path.{_≡_}
+use mathlib.Core.Path.{_≡_, refl}
 use lib.ListN.{length}
 use lib.Ieee.{Float}
 use Rattle.leaf.specs.Bytes.{byte}
@@ -32,6 +32,10 @@ use Rattle.session.specs.declared.Outcome.the-variants.{Refused}
 use Rattle.session.specs.Types.{typeAllowed}
 use Rattle.session.specs.Session.{freshSession, openSession, sampleChecks, refusedBy, carried, ranOf, sampleOf}
 use Rattle.demands.specs.Refused.{open-given, open-number, open-place, sample-given, sample-number}
+use Rattle.leaf.specs.Choosing.{pick}
+use Rattle.rides.specs.Recording.{goodRecording}
+use Rattle.rides.specs.Ride.{startRide}
+use Rattle.rides.proofs.Recordings.{RecordingMet, good-met, met-good}
 
 -- ---- a card, and a reader's highest version
 
@@ -101,3 +105,18 @@ pub sample-refused : (s : Session) (pulses beacon buttons mode : ℕ) (why : Ref
     → (why ≡ Number (refusedBy s pulses beacon buttons mode)) × FirstFault (refusedBy s pulses beacon buttons mode) (sampleChecks s pulses beacon buttons mode)
     × (sampleOf s pulses beacon buttons mode .session ≡ s)
 sample-refused = sample-number
+
+-- ---- a recording
+
+-- "14 | recording not exactly as long as stated, length not 6 + 6n with n ≤ 10,000, or version not 1": "a ride 14, 7, its samples"
+pub recording-answered : (s : Settings) (recording : List ℕ) (n : ℕ) → RecordingMet recording n → startRide s recording ≡ openSession s (byte recording 5)
+unfolding startRide
+recording-answered s recording n met = rw (met-good recording n met .0)
+
+pub recording-refused : (s : Settings) (recording : List ℕ) → ((n : ℕ) → RecordingMet recording n → ⊥) → startRide s recording ≡ refused 14
+unfolding startRide
+recording-refused s recording none = cases (goodRecording recording) refl
+  where
+    cases : (good : Bool) → goodRecording recording ≡ good → pick good (openSession s (byte recording 5)) (refused 14) ≡ refused 14
+    cases true e = absurd (none _ (good-met recording e))
+    cases false e = refl

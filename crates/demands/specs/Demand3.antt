@@ -17,6 +17,9 @@ use Rattle.card.specs.Reading.{readCard}
 use Rattle.card.proofs.Same.{Same}
 use Rattle.card.proofs.Silence.{silence}
 use Rattle.card.proofs.Versions.{knows-1-refuses-2, same-card}
+use Rattle.printed.specs.declared.Columns.{Columns}
+use Rattle.printed.specs.Printed.{printedRide}
+use Rattle.printed.proofs.Silence.{print-silence}
 use Rattle.demands.specs.Runs.{Sample, rideOf, firstOf}
 use Rattle.demands.specs.Speaks.{untilSpeaks}
 use Rattle.demands.specs.Apart.{later}
@@ -54,3 +57,8 @@ pub version-2-refused : (area : List ℕ) → 3 ≤ length area → byte area 2 
 version-2-refused area long two =
     let e = knows-1-refuses-2 area long two in
     (e, λ train xs. rw e)
+
+-- The same of the printed ride: two areas with the same speaking bytes print the same text.
+pub silent-print : (columns : Columns) (a b recording : List ℕ) → lengthOf (byte a 2) ≤ length a → lengthOf (byte a 2) ≤ length b
+    → ((i : ℕ) → speaks (byte a 2) (byte a 39) i ≡ true → byte a i ≡ byte b i) → printedRide columns a recording ≡ printedRide columns b recording
+silent-print = print-silence

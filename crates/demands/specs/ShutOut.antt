@@ -1,9 +1,9 @@
 -- Document 01: "Shut out by name: a logic that refuses everything (demand 1); one that answers one speed for ever, returns the session
 -- untouched, or obeys the first sample and then repeats itself (demand 2); an invented place or printed sample number (demands 1 and 2)."
 -- A logic is a function of a session and a sample; one that equals the definition, as the session's method does, is none of these.
-use Prim.Native.Nat.{ℕ}
+use Prim.Native.Nat.{ℕ, suc}
 use mathlib.Core.Bool.{true}
-use mathlib.Core.List.{List}
+use mathlib.Core.List.{List, _++_}
 use mathlib.Core.Path.{_≡_}
 use Rattle.leaf.specs.Bytes.{byte}
 use Rattle.leaf.specs.Checks.{FirstFault}
@@ -17,6 +17,14 @@ use Rattle.tone.specs.Facts as sheet
 use Rattle.tone.specs.Tones.{readSheet}
 use Rattle.tone.proofs.FirstFault.{refused-first}
 use Rattle.session.specs.declared.Session.{Session}
+use Rattle.sample.specs.declared.step.Answer.{Answer}
+use Rattle.text.specs.Decimal.{line}
+use Rattle.rides.specs.declared.ride.Ride.{Ride}
+use Rattle.rides.specs.declared.ride.Shown.the-variants.{Answered}
+use Rattle.rides.specs.Ride.{rideAfter, turnAt}
+use Rattle.printed.specs.declared.Columns.{Columns}
+use Rattle.printed.specs.Printed.{columnsOf, linesOf}
+use Rattle.printed.proofs.End.{answered-prints}
 use Rattle.laws.specs.NoToy.{Logic, Equals, isRefused, speedTold, not-refusing}
 use Rattle.laws.specs.NoToy as toy
 
@@ -49,3 +57,9 @@ not-invented-write = write-place
 
 pub not-invented-sheet : (area : List ℕ) (n place : ℕ) → readSheet area ≡ refusedAt n place → (n ≡ 12) × sheet.FirstFault area place
 not-invented-sheet = refused-first
+
+-- "an invented .. printed sample number": the line of an answered sample stands behind those before it, numbered one more
+pub not-invented-number : (columns : Columns) (r : Ride) (recording : List ℕ) (k : ℕ) (a : Answer)
+    → turnAt (rideAfter r recording k) recording k .shown ≡ Answered a
+    → linesOf columns r recording (suc k) ≡ linesOf columns r recording k ++ line (suc k) (columnsOf columns a)
+not-invented-number = answered-prints

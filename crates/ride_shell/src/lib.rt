@@ -21,14 +21,14 @@ fn write(bytes: &[u8]) {
     io::write_all(STDOUT_FILENO, bytes);
 }
 
-// The heading, and the line for a card's file that cannot be read.
+// The line for a card's file that cannot be read.
 fn print_unread(name: &[u8]) {
     write(b"cannot read ");
     write(name);
     write(b"\n");
 }
 
-// The ride of the recording on standard input, on the card in fd, below the heading of h bytes.
+// The ride of the recording on standard input, on this card, below the heading of h bytes.
 fn print_below(columns: Columns, card: &[u8], h: usize) {
     let mut space = [0u8; RECORDING_ROOM];
     let n = io::read_full(STDIN_FILENO, &mut space);

@@ -1,4 +1,4 @@
-// A ride, whole: recordings, running one, and the printed ride.
+// A ride, whole: recordings, and running one.
 //
 // No public function has a `requires`. Each ensures that its result, and every byte of a lent buffer, is what the
 // definition of specs/ that it names gives.
