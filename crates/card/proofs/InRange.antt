@@ -1,15 +1,16 @@
 -- Settings pass the list of checks exactly when they meet the ranges in plain facts.
 use Prim.Native.Nat.{ℕ, _/_, _%_, _≤_}
 use native.Mathlib.Omega.{arith}
-use mathlib.Core.Path.{_≡_, refl}
+use mathlib.Core.Path.{_≡_, refl, _∙_}
 use mathlib.Core.Bool.{Bool, true, false, _&&_}
 use lib.Dec.{leb, eqb}
 use borrow.Author.Tests.{le-leb, leb-true, eqb-true, eqb-false, eq-eqb, ne-eqb}
 use Rattle.leaf.specs.Choosing.{pick}
 use Rattle.leaf.specs.Numbers.{within}
-use Rattle.leaf.specs.Checks.{Fine, none-bad, fine-none}
+use Rattle.leaf.specs.Checks.{firstBad, Fine, none-bad, fine-none, all-hold}
+use Rattle.leaf.specs.Answers.{refusedAt, isGiven}
 use Rattle.card.specs.Card.{FIRST, reminds}
-use Rattle.card.specs.Ranges.{functionsTop, rangedIf, settingsChecks, checksOf, settingsFault, faultOf}
+use Rattle.card.specs.Ranges.{functionsTop, rangedIf, settingsChecks, settingsInside, checksOf, settingsFault, faultOf, inRange, checkSettings}
 use Rattle.card.specs.Plain.{RowIn, ReminderMet, RangesMet, SettingsMet}
 use Rattle.card.specs.declared.Row.{Row}
 use Rattle.card.specs.declared.Settings.{Settings}
@@ -149,3 +150,12 @@ fault-met v s h = checks-met FIRST 80 200 v s (none-bad 0 (checksOf v s) tt h .1
 pub met-fault : (v : ℕ) (s : Settings) → SettingsMet v s → faultOf v s ≡ 0
 unfolding faultOf settingsFault
 met-fault v s m = fine-none (checksOf v s) (met-checks FIRST 80 200 v s m)
+
+-- all are in range exactly where no fault is found
+pub inside-given : (v : ℕ) (s : Settings) → settingsInside 80 200 v s ≡ isGiven (checkSettings v s)
+unfolding settingsInside checkSettings faultOf settingsFault
+inside-given v s = all-hold (checksOf v s) tt ∙ cases (eqb (firstBad 0 (checksOf v s)) 0)
+  where
+    cases : (t : Bool) → t ≡ isGiven (pick t inRange (refusedAt 5 (firstBad 0 (checksOf v s))))
+    cases true = refl
+    cases false = refl

@@ -1,11 +1,11 @@
 -- Document 01, "The card": the range of each setting, with the place that refusal 5 gives where it is not met.
 use Prim.Native.Nat.{ℕ, _+_, _%_}
 use mathlib.Core.List.{List, [], _∷_, _++_}
-use mathlib.Core.Bool.{Bool}
+use mathlib.Core.Bool.{Bool, true}
 use lib.Dec.{leb, eqb}
 use Rattle.leaf.specs.Choosing.{pick}
 use Rattle.leaf.specs.Numbers.{within}
-use Rattle.leaf.specs.Checks.{Check, firstBad}
+use Rattle.leaf.specs.Checks.{Check, firstBad, allHold}
 use Rattle.leaf.specs.Answers.{Answer, given, refusedAt}
 use Rattle.card.specs.Card.{FIRST, reminds}
 use Rattle.card.specs.declared.Row.{Row}
@@ -58,6 +58,10 @@ settingsChecks first lowest highest version s = headChecks first lowest highest 
 -- the place of the first setting out of range, 0 where there is none
 unfoldable pub settingsFault : ℕ → ℕ → ℕ → ℕ → Settings → ℕ
 settingsFault first lowest highest version s = firstBad 0 (settingsChecks first lowest highest version s)
+
+-- every setting in range, whatever its place
+unfoldable pub settingsInside : ℕ → ℕ → ℕ → Settings → Bool
+settingsInside lowest highest version s = allHold true (settingsChecks 0 lowest highest version s)
 
 -- ---- this card's kind: the first setting at byte 3, vmax 80..200
 

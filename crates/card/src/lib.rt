@@ -16,10 +16,12 @@ use leaf::in_range;
 use leaf::or_fault;
 use leaf::word_at;
 use ranges::settings_fault;
+use ranges::settings_inside;
 ghost use mathlib.Core.Path.{_≡_};
 ghost use lib.ListN.{length};
 ghost use Rattle.leaf.specs.Bytes.{over};
 ghost use Rattle.leaf.specs.Checks.{firstBad};
+ghost use Rattle.leaf.specs.Answers.{isGiven};
 ghost use Rattle.card.specs.Card.{known, lengthOf};
 ghost use Rattle.card.specs.Ranges.{faultOf, checkedOf, checkSettings};
 ghost use Rattle.card.specs.Reading.{paperOf, answerBy, readChecks, readCard};
@@ -102,6 +104,13 @@ pub fn check(version: u8, s: Settings) -> Checked
         return Checked::InRange;
     }
     Checked::FaultAt(place)
+}
+
+// The same, without the place of a fault.
+pub fn is_in_range(version: u8, s: Settings) -> bool
+    ensures { λ r. ⌜ r ≡ isGiven (checkSettings version s) ⌝ }
+{
+    settings_inside(VMAX_LOWEST, VMAX_HIGHEST, version, s)
 }
 
 fn is_known(version: u8) -> bool

@@ -9,9 +9,10 @@ use leaf::low;
 use leaf::or_fault;
 ghost use mathlib.Core.Path.{_≡_};
 ghost use Rattle.leaf.specs.Numbers.{within};
-ghost use Rattle.leaf.specs.Checks.{orFault, firstBad};
+ghost use lib.Dec.{leb};
+ghost use Rattle.leaf.specs.Checks.{orFault, firstBad, allHold};
 ghost use Rattle.card.specs.Card.{reminds};
-ghost use Rattle.card.specs.Ranges.{placeOf, rangedIf, rowChecks, headChecks, rowsChecks, tailChecks, settingsFault};
+ghost use Rattle.card.specs.Ranges.{placeOf, rangedIf, functionsTop, rowChecks, headChecks, rowsChecks, tailChecks, settingsFault, settingsInside};
 
 // The place so many bytes behind the first.
 fn place(first: u8, offset: u8) -> u8
@@ -25,23 +26,6 @@ fn fault_at(found: u8, first: u8, offset: u8, test: bool) -> u8
     ensures { λ r. ⌜ r ≡ orFault found (placeOf first offset) test ⌝ }
 {
     or_fault(found, place(first, offset), test)
-}
-
-fn check_byte(found: u8, first: u8, offset: u8, lo: u8, hi: u8, x: u8) -> u8
-    ensures { λ r. ⌜ r ≡ orFault found (placeOf first offset) (within lo hi x) ⌝ }
-{
-    fault_at(
-        found,
-        first,
-        offset,
-        in_range(lo as u16, hi as u16, x as u16),
-    )
-}
-
-fn check_word(found: u8, first: u8, offset: u8, lo: u16, hi: u16, x: u16) -> u8
-    ensures { λ r. ⌜ r ≡ orFault found (placeOf first offset) (within lo hi x) ⌝ }
-{
-    fault_at(found, first, offset, in_range(lo, hi, x))
 }
 
 // In range where it speaks, else 0.
@@ -61,22 +45,80 @@ pub fn has_reminder(functions: u8) -> bool
     has_bit(functions as u16, 4)
 }
 
+// ---- the range of each setting
+
+fn byte_inside(lo: u8, hi: u8, x: u8) -> bool
+    ensures { λ r. ⌜ r ≡ within lo hi x ⌝ }
+{
+    in_range(lo as u16, hi as u16, x as u16)
+}
+
+fn tick_inside(s: Settings) -> bool
+    ensures { λ r. ⌜ r ≡ within 10 1000 (s .tick) ⌝ }
+{
+    in_range(10, 1000, s.tick)
+}
+
+fn bts_inside(s: Settings) -> bool
+    ensures { λ r. ⌜ r ≡ within 1 200 (s .bts) ⌝ }
+{
+    byte_inside(1, 200, s.bts)
+}
+
+fn initial_inside(row: Row) -> bool
+    ensures { λ r. ⌜ r ≡ within 1 200 (row .initial) ⌝ }
+{
+    byte_inside(1, 200, row.initial)
+}
+
+fn last_inside(row: Row) -> bool
+    ensures { λ r. ⌜ r ≡ within 1 (row .initial) (row .last) ⌝ }
+{
+    byte_inside(1, row.initial, row.last)
+}
+
+fn drop_inside(row: Row) -> bool
+    ensures { λ r. ⌜ r ≡ leb 1 (row .drop) ⌝ }
+{
+    1 <= row.drop
+}
+
+fn functions_inside(version: u8, s: Settings) -> bool
+    ensures { λ r. ⌜ r ≡ leb (s .functions) (functionsTop version) ⌝ }
+{
+    s.functions <= choose8(version == 1, 0, 15)
+}
+
+fn x_inside(s: Settings) -> bool
+    ensures { λ r. ⌜ r ≡ rangedIf (reminds (s .functions)) 2 6000 (s .x) ⌝ }
+{
+    ranged_if(has_reminder(s.functions), 2, 6000, s.x)
+}
+
+fn y_inside(s: Settings) -> bool
+    ensures { λ r. ⌜ r ≡ rangedIf (reminds (s .functions)) 1 5000 (s .y) ⌝ }
+{
+    ranged_if(has_reminder(s.functions), 1, 5000, s.y)
+}
+
+// ---- the first that fails
+
 // The one rule of a row, so many bytes behind the first setting.
 fn row_fault(found: u8, first: u8, offset: u8, row: Row) -> u8
     ensures { λ f. ⌜ f ≡ firstBad found (rowChecks (placeOf first offset) row) ⌝ }
 {
     let at = place(first, offset);
-    let f = check_byte(found, at, 0, 1, 200, row.initial);
-    let f = check_byte(f, at, 1, 1, row.initial, row.last);
-    fault_at(f, at, 3, 1 <= row.drop)
+    let f = fault_at(found, at, 0, initial_inside(row));
+    let f = fault_at(f, at, 1, last_inside(row));
+    fault_at(f, at, 3, drop_inside(row))
 }
 
 fn head_fault(first: u8, lowest: u8, highest: u8, s: Settings) -> u8
     ensures { λ f. ⌜ f ≡ firstBad 0 (headChecks first lowest highest s) ⌝ }
 {
-    let f = check_byte(0, first, 0, lowest, highest, s.vmax);
-    let f = check_word(f, first, 1, 10, 1000, s.tick);
-    check_byte(f, first, 3, 1, 200, s.bts)
+    let f = fault_at(0, first, 0, byte_inside(lowest, highest, s.vmax));
+    let f = fault_at(f, first, 1, tick_inside(s));
+    fault_at(f, first, 3, bts_inside(s))
 }
 
 fn rows_fault(found: u8, first: u8, s: Settings) -> u8
@@ -95,11 +137,9 @@ fn rows_fault(found: u8, first: u8, s: Settings) -> u8
 fn tail_fault(found: u8, first: u8, version: u8, s: Settings) -> u8
     ensures { λ f. ⌜ f ≡ firstBad found (tailChecks first version s) ⌝ }
 {
-    let on = has_reminder(s.functions);
-    let most = choose8(version == 1, 0, 15);
-    let f = fault_at(found, first, 36, s.functions <= most);
-    let f = fault_at(f, first, 37, ranged_if(on, 2, 6000, s.x));
-    fault_at(f, first, 39, ranged_if(on, 1, 5000, s.y))
+    let f = fault_at(found, first, 36, functions_inside(version, s));
+    let f = fault_at(f, first, 37, x_inside(s));
+    fault_at(f, first, 39, y_inside(s))
 }
 
 // The place of the first setting out of range, 0 where there is none: for a card whose first setting stands at
@@ -110,4 +150,34 @@ pub fn settings_fault(first: u8, lowest: u8, highest: u8, version: u8, s: Settin
     let f = head_fault(first, lowest, highest, s);
     let f = rows_fault(f, first, s);
     tail_fault(f, first, version, s)
+}
+
+// ---- whether all hold, without a place: what a session asks at each sample
+
+fn row_inside(sofar: bool, row: Row) -> bool
+    ensures { λ r. ⌜ r ≡ allHold sofar (rowChecks 0 row) ⌝ }
+{
+    sofar & initial_inside(row) & last_inside(row) & drop_inside(row)
+}
+
+fn rows_inside(sofar: bool, s: Settings) -> bool
+    ensures { λ r. ⌜ r ≡ allHold sofar (rowsChecks 0 s) ⌝ }
+{
+    let inside = row_inside(sofar, s.clear);
+    let inside = row_inside(inside, s.announcement);
+    let inside = row_inside(inside, s.preannouncement);
+    let inside = row_inside(inside, s.caution);
+    let inside = row_inside(inside, s.before_stop);
+    let inside = row_inside(inside, s.crossing);
+    let inside = row_inside(inside, s.limit);
+    row_inside(inside, s.start)
+}
+
+// Is every setting in range, on a card whose vmax is lowest to highest.
+pub fn settings_inside(lowest: u8, highest: u8, version: u8, s: Settings) -> bool
+    ensures { λ r. ⌜ r ≡ settingsInside lowest highest version s ⌝ }
+{
+    let head = byte_inside(lowest, highest, s.vmax) & tick_inside(s) & bts_inside(s);
+    let rows = rows_inside(head, s);
+    rows & functions_inside(version, s) & x_inside(s) & y_inside(s)
 }
