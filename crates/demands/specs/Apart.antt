@@ -6,7 +6,7 @@ use mathlib.Core.Bool.{Bool, true, false, _&&_, _||_, not}
 use mathlib.Core.Path.{_≡_, refl, sym, _∙_}
 use lib.Dec.{eqb}
 use borrow.Author.Tests.{eqb-true}
-use Rattle.leaf.specs.Choosing.{pick}
+use Rattle.leaf.specs.Choosing.{pick, and-split}
 use Rattle.leaf.specs.Numbers.{bitOf}
 use Rattle.card.specs.declared.Settings.{Settings}
 use Rattle.signals.specs.declared.control.Main.{Main}
@@ -54,17 +54,13 @@ pub or-false : (a b : Bool) → (a || b) ≡ false → (a ≡ false) × (b ≡ f
 or-false true b h = absurd (let z : _≡_ {A = ℕ} 0 1 = cc in omega arith)
 or-false false b h = (refl, h)
 
-pub and-parts : (a b : Bool) → (a && b) ≡ true → (a ≡ true) × (b ≡ true)
-and-parts true b h = (refl, h)
-and-parts false b h = absurd (let z : _≡_ {A = ℕ} 0 1 = cc in omega arith)
-
 -- ---- the reminders: bit 2, X and Y
 
 -- where function 2 does not differ, its bit, X and Y are the same: with the bit off they are 0 in both
 pub reminder-same : (p q : Bool) (x y v w : ℕ) → (p ≡ false → (x ≡ 0) × (y ≡ 0)) → (q ≡ false → (v ≡ 0) × (w ≡ 0))
     → (not (same p q) || p && q && not (eqb x v && eqb y w)) ≡ false → (p ≡ q) × (x ≡ v) × (y ≡ w)
 reminder-same true true x y v w hp hq h =
-    let e = and-parts (eqb x v) (eqb y w) (twice _ h) in
+    let e = and-split (eqb x v) (eqb y w) (twice _ h) in
     (refl, eqb-true x v (e .0), eqb-true y w (e .1))
   where
     twice : (b : Bool) → not b ≡ false → b ≡ true

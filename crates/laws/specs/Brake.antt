@@ -6,7 +6,7 @@ use mathlib.Core.Bool.{Bool, true, false, _&&_}
 use mathlib.Core.Logic.{_⊎_, inl, inr}
 use lib.Dec.{eqb}
 use borrow.Author.Tests.{eqb-true, eqb-false, ne-eqb}
-use Rattle.leaf.specs.Choosing.{pick}
+use Rattle.leaf.specs.Choosing.{pick, and-split}
 use Rattle.leaf.specs.Numbers.{bitOf}
 use Rattle.card.specs.declared.Settings.{Settings}
 use Rattle.desk.specs.declared.state.Desk.{Desk}
@@ -14,7 +14,6 @@ use Rattle.sample.specs.declared.step.Sample.{Sample}
 use Rattle.sample.specs.Speed.{crossingTurned}
 use Rattle.sample.specs.Brake.{standingCause, braked}
 use Rattle.sample.specs.Sample.{judgedOf, answerOf, stepOf}
-use Rattle.laws.specs.Ranges.{and-split}
 use Rattle.laws.specs.Causes.{moved-has, arose-in}
 
 -- ---- the rule, on numbers

@@ -8,14 +8,14 @@ use mathlib.Core.Logic.{_⊎_, inl, inr, _↔_}
 use mathlib.Core.List.{[], _∷_}
 use lib.Dec.{leb, eqb}
 use borrow.Author.Tests.{le-leb, leb-true, leb-false, lt-leb, eqb-true, eqb-false, ne-eqb}
-use Rattle.leaf.specs.Choosing.{pick}
+use Rattle.leaf.specs.Choosing.{pick, and-split}
 use Rattle.leaf.specs.Checks.{firstBad, orFault, FirstFault, first-fault}
 use Rattle.leaf.specs.declared.Refusal.the-variants.{Number}
 use Rattle.desk.specs.Clock.{sameMode}
 use Rattle.session.specs.declared.Session.{Session}
 use Rattle.session.specs.declared.Outcome.the-variants.{Refused}
 use Rattle.session.specs.Session.{insideOf, standstill, inBts, sampleChecks, refusedBy, carried, ranOf, sampleOf}
-use Rattle.laws.specs.Ranges.{Inside, and-split, inside-only, inside-when}
+use Rattle.laws.specs.Ranges.{Inside, inside-only, inside-when}
 
 -- ---- the facts
 

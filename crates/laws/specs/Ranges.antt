@@ -6,7 +6,8 @@ use mathlib.Core.Path.{_≡_, refl}
 use mathlib.Core.Bool.{Bool, true, false, _&&_}
 use lib.Dec.{leb}
 use borrow.Author.Tests.{le-leb, leb-true}
-use Rattle.leaf.specs.Answers.{Answer, given, refused, refusedAt}
+use Rattle.leaf.specs.Choosing.{and-split}
+use Rattle.leaf.specs.Answers.{Answer, given, refused, refusedAt, isGiven}
 use Rattle.card.specs.declared.Settings.{Settings}
 use Rattle.card.specs.Plain.{SettingsMet}
 use Rattle.card.specs.Ranges.{checkSettings, inRange}
@@ -23,7 +24,7 @@ use Rattle.desk.specs.declared.state.Desk.{Desk}
 use Rattle.session.specs.declared.Session.{Session}
 use Rattle.session.specs.Types.{typeSpeed, typeAllowed}
 use Rattle.session.specs.Ranges.{mainInside, windowInside, alongsideInside, overrideInside, reminderInside, crossingInside, optionInside, limitInside, deskInside}
-use Rattle.session.specs.Session.{isGiven, settingsInside, insideOf}
+use Rattle.session.specs.Session.{settingsInside, insideOf}
 
 -- ---- the facts
 
@@ -81,10 +82,6 @@ pub record Inside (s : Session) : Type 0 where
   pub desk : DeskIn (s .desk)
 
 -- ---- two tests at once
-
-pub and-split : (a b : Bool) → (a && b) ≡ true → (a ≡ true) × (b ≡ true)
-and-split true b h = (refl, h)
-and-split false b h = (h, cc)
 
 two-in : (a m b n : ℕ) → (leb a m && leb b n) ≡ true → (a ≤ m) × (b ≤ n)
 two-in a m b n h = let p = and-split (leb a m) (leb b n) h in (leb-true a m (p .0), leb-true b n (p .1))

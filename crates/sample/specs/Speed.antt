@@ -59,6 +59,14 @@ abbrev pub leastOf : ℕ → List Standing → ℕ
 leastOf soFar [] = soFar
 leastOf soFar (l ∷ rest) = leastOf (leastIf (l .0) (l .1) soFar) rest
 
+-- the least so far with the crossing, and with the limit, where each stands
+unfoldable pub crossingLeast : Settings → ℕ → Desk → ℕ → ℕ
+crossingLeast s top d soFar =
+    leastIf (stands (d .crossing .kind)) (crossingSpeed (d .crossing .kind) (rowSpeed (s .crossing) (d .crossing .age)) top) soFar
+
+unfoldable pub limitLeast : Settings → ℕ → Desk → ℕ → ℕ
+limitLeast s top d soFar = leastIf (d .limit .on) (limitSpeed (rowSpeed (s .limit) (d .limit .age)) (s .limit .last) top (d .limit)) soFar
+
 -- S: vmax always stands
 unfoldable pub supervisedOf : Settings → ℕ → Desk → ℕ
 supervisedOf s top d = leastOf (s .vmax * 100) (limitsBelow s top d)

@@ -8,7 +8,7 @@ use signals::stop::stop_speed;
 ghost use mathlib.Core.Path.{_≡_};
 ghost use Prim.Native.Nat.{_+_};
 ghost use Rattle.leaf.specs.Numbers.{exceedsOf};
-ghost use Rattle.sample.specs.Speed.{mainSpeed, leastIf, signalsLeast, supervisedOf, crossingTurned};
+ghost use Rattle.sample.specs.Speed.{mainSpeed, leastIf, signalsLeast, crossingLeast, limitLeast, supervisedOf, crossingTurned};
 
 // Hundredths of km/h that the main control allows. Clear allows T: it is no limit.
 fn main_speed(main: Main, settings: Settings, top: u32) -> u32
@@ -84,17 +84,36 @@ fn signals_least(d: Desk, settings: Settings, top: u32) -> u32
     )
 }
 
+// The least so far, with the crossing where it stands.
+fn with_crossing(d: Desk, settings: Settings, top: u32, sofar: u32) -> u32
+    ensures { λ r. ⌜ r ≡ crossingLeast settings top d sofar ⌝ }
+{
+    let crossing = d.crossing;
+    let row = settings.crossing;
+    let standing = crossing.is_standing();
+    if standing {
+        return leaf::least(sofar, crossing.speed(row_speed(row, crossing.age), top));
+    }
+    sofar
+}
+
+// The least so far, with the limit where it stands.
+fn with_limit(d: Desk, settings: Settings, top: u32, sofar: u32) -> u32
+    ensures { λ r. ⌜ r ≡ limitLeast settings top d sofar ⌝ }
+{
+    let limit = d.limit;
+    let row = settings.limit;
+    if limit.on {
+        return leaf::least(sofar, limit.speed(row_speed(row, limit.age), row.last, top));
+    }
+    sofar
+}
+
 // S, hundredths of km/h.
 pub fn supervised(d: Desk, settings: Settings, top: u32) -> u32
     ensures { λ r. ⌜ r ≡ supervisedOf settings top d ⌝ }
 {
-    let crossing = d.crossing;
-    let limit = d.limit;
-    let crossing_row = settings.crossing;
-    let limit_row = settings.limit;
     let signals = signals_least(d, settings, top);
-    let at_crossing = crossing.speed(row_speed(crossing_row, crossing.age), top);
-    let with_crossing = least_if(crossing.is_standing(), at_crossing, signals);
-    let at_limit = limit.speed(row_speed(limit_row, limit.age), limit_row.last, top);
-    least_if(limit.on, at_limit, with_crossing)
+    let sides = with_crossing(d, settings, top, signals);
+    with_limit(d, settings, top, sides)
 }

@@ -47,6 +47,11 @@ fn moved(d: Desk, settings: Settings, top: u32, x: Sample) -> Turn
     let row = settings.limit;
     let begun = begin(d, x.bts, x.m, f / 4 % 2 == 1, settings.x, settings.y);
     let aged = begun.desk;
+    // no press, and the code of the sample before: there is nothing to take
+    let quiet = (x.buttons == 0) & (x.beacon == aged.code);
+    if quiet {
+        return begun;
+    }
     let pressed = take_buttons(aged, x.buttons, x.m, row, top);
     let read = take_beacon(
         pressed,

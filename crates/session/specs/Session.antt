@@ -6,7 +6,7 @@ use lib.Dec.{leb, eqb}
 use Rattle.leaf.specs.Choosing.{pick}
 use Rattle.leaf.specs.Numbers.{within}
 use Rattle.leaf.specs.Checks.{Check, firstBad}
-use Rattle.leaf.specs.Answers.{Answer, given, refused, refusedAt, refusalOf}
+use Rattle.leaf.specs.Answers.{Answer, given, refused, refusedAt, isGiven, refusalOf}
 use Rattle.leaf.specs.declared.Refusal.the-variants.{Number}
 use Rattle.card.specs.declared.Settings.{Settings}
 use Rattle.card.specs.Ranges.{checkSettings}
@@ -44,12 +44,6 @@ unfoldable pub openSession : Settings → ℕ → Answer Session
 openSession settings train = openedAfter (checkSettings 2 settings) settings train
 
 -- ---- the ranges: "mode, cause, code and settings in range, and a train type that 7 allows"
-
--- was it given, or refused
-abbrev pub isGiven : {A : Type 0} → Answer A → Bool
-isGiven (given a) = true
-isGiven (refused n) = false
-isGiven (refusedAt n place) = false
 
 -- settings are judged as opening judges them
 unfoldable pub settingsInside : Settings → Bool

@@ -7,6 +7,7 @@ mod ranges;
 use card::Checked;
 use card::Settings;
 use card::check;
+use card::is_in_range;
 use desk::state::Desk;
 use leaf::Refusal;
 use leaf::or_fault;
@@ -17,7 +18,7 @@ use sample::step::step;
 ghost use mathlib.Core.Path.{_≡_};
 ghost use Prim.Native.Nat.{_*_};
 ghost use Rattle.session.specs.Types.{typeSpeed, typeAllowed};
-ghost use Rattle.session.specs.Session.{freshSession, openedOf, openSession, settingsInside, insideOf, standstill, refusedBy, ranOf, sampleOf};
+ghost use Rattle.session.specs.Session.{freshSession, openedOf, openSession, insideOf, standstill, refusedBy, ranOf, sampleOf};
 
 pub struct Session {
     pub settings: Settings,
@@ -74,16 +75,6 @@ fn is_standing(pulses: u16) -> bool
     pulses == 0
 }
 
-fn settings_inside(settings: Settings) -> bool
-    ensures { λ r. ⌜ r ≡ settingsInside settings ⌝ }
-{
-    let checked = check(2, settings);
-    match checked {
-        Checked::InRange => true,
-        Checked::FaultAt(_) => false,
-    }
-}
-
 impl Session {
     // A fresh session: in CONV, with the start row as main.
     fn fresh(settings: Settings, train: u8) -> Session
@@ -120,7 +111,7 @@ impl Session {
     {
         let settings = self.settings;
         let desk = self.desk;
-        settings_inside(settings) & type_allowed(self.train, settings.vmax) & desk_inside(desk)
+        is_in_range(2, settings) & type_allowed(self.train, settings.vmax) & desk_inside(desk)
     }
 
     // The number that refuses the sample, 0 where it is accepted.

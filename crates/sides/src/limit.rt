@@ -100,6 +100,9 @@ impl Limit {
     pub fn is_removable(self, m: u32, last: u8, top: u32) -> bool
         ensures { λ r. ⌜ r ≡ removable m last top self ⌝ }
     {
-        self.on & leaf::below(m, stepped_final(last, self.steps, top))
+        if self.on {
+            return leaf::below(m, stepped_final(last, self.steps, top));
+        }
+        false
     }
 }

@@ -59,6 +59,13 @@ reminderOlder m r =
       distance = furtherOf (r .distance) m;
     }
 
+abbrev pub isOff : Phase → Bool
+isOff Off = true
+isOff Due = false
+isOff First = false
+isOff Pressed = false
+isOff Second = false
+
 abbrev pub isLit : Phase → Bool
 isLit Off = false
 isLit Due = false

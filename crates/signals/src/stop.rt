@@ -2,7 +2,7 @@
 use crate::control::Main;
 ghost use mathlib.Core.Path.{_≡_};
 ghost use Prim.Native.Nat.{_*_};
-ghost use Rattle.signals.specs.Stop.{stopSpeed, noneAlongside, startsAlongside, alongsideOlder, alongsideAfter, disarmed, armedNow, overrideOlder, freshAs, reminderOlder, isLit, reminderMissed, isDue, firstMet, isPressed, secondMet, remindedOf, takesPress, pressedOf};
+ghost use Rattle.signals.specs.Stop.{stopSpeed, noneAlongside, startsAlongside, alongsideOlder, alongsideAfter, disarmed, armedNow, overrideOlder, freshAs, reminderOlder, isOff, isLit, reminderMissed, isDue, firstMet, isPressed, secondMet, remindedOf, takesPress, pressedOf};
 
 pub struct Alongside {
     pub on: bool,
@@ -141,6 +141,19 @@ impl Reminder {
         }
     }
 
+    fn is_off(self) -> bool
+        ensures { λ r. ⌜ r ≡ isOff (self .phase) ⌝ }
+    {
+        let phase = self.phase;
+        match phase {
+            Phase::Off => true,
+            Phase::Due => false,
+            Phase::First => false,
+            Phase::Pressed => false,
+            Phase::Second => false,
+        }
+    }
+
     pub fn is_lit(self) -> bool
         ensures { λ r. ⌜ r ≡ isLit (self .phase) ⌝ }
     {
@@ -206,6 +219,10 @@ impl Reminder {
     pub fn reminded(self, main: Main, function_2: bool, x: u16, y: u16) -> Reminder
         ensures { λ r. ⌜ r ≡ remindedOf main function_2 x y self ⌝ }
     {
+        let off = self.is_off();
+        if off {
+            return self;
+        }
         let missed = self.missed();
         let first = self.first_met(main) & function_2;
         let second = self.second_met(main.increased, x, y);

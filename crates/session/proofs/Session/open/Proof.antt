@@ -6,7 +6,7 @@ use mathlib.Core.Path.{sym}
 
 returns : tie.Need-returns
 unfolding openSession
-returns c = simp (c .before .checked .given .1, sym (c .before .before .before .type-allowed .ensures), sym (c .before .before .before .before .check .ensures))
+returns c = simp (c .before .checked .given .1, sym (c .before .before .before .before .check .ensures))
 
 returns-2 : tie.Need-returns-2
 unfolding openSession

@@ -5,7 +5,11 @@ use Rattle.sides.specs.Limit.{removable}
 
 returns : tie.Need-returns
 unfolding removable
-returns c = simp (c .before .below .ensures, c .before .before .stepped-final .ensures)
+returns c = simp (c .below .ensures, c .before .stepped-final .ensures, c .before .before .if1 .taken)
+
+returns-2 : tie.Need-returns-2
+unfolding removable
+returns-2 c = simp (c .if1 .left)
 
 pub is-removable-spec : {M : Type 1} → statement M
-is-removable-spec = tie.close (tie.spec (λ c κs. search needs) (λ c κs. search needs) returns)
+is-removable-spec = tie.close (tie.spec (λ c κs. search needs) (λ c κs. search needs) returns returns-2)
