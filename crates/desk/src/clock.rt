@@ -54,6 +54,10 @@ fn remind(d: Desk, function_2: bool, x: u16, y: u16) -> Desk
 {
     let main = d.main;
     let reminder = d.reminder;
+    let off = reminder.is_off();
+    if off {
+        return d;
+    }
     d.with_reminder(reminder.reminded(main, function_2, x, y))
 }
 
@@ -114,6 +118,10 @@ fn advance(d: Desk, m: u32, function_2: bool, x: u16, y: u16) -> Turn
     let side_missed = side.missed();
     let cause = miss_cause(main_missed, side_missed, reminder.missed());
     let d = remind(d, function_2, x, y);
+    let none = cause == 0;
+    if none {
+        return Turn { desk: d, cause: 0 };
+    }
     let d = miss_main(d, main_missed);
     Turn {
         desk: miss_side(d, side_missed),

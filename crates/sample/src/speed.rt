@@ -4,10 +4,12 @@ use curve::row_speed;
 use desk::state::Desk;
 use signals::control::Main;
 use signals::control::MainKind;
+use signals::stop::Alongside;
 use signals::stop::stop_speed;
 ghost use mathlib.Core.Path.{_≡_};
 ghost use Prim.Native.Nat.{_+_};
 ghost use Rattle.leaf.specs.Numbers.{exceedsOf};
+ghost use Rattle.signals.specs.Stop.{stopSpeed};
 ghost use Rattle.sample.specs.Speed.{mainSpeed, leastIf, signalsLeast, crossingLeast, limitLeast, supervisedOf, crossingTurned};
 
 // Hundredths of km/h that the main control allows. Clear allows T: it is no limit.
@@ -68,6 +70,16 @@ pub fn turn_crossing(d: Desk, m: u32) -> Desk
     d.with_crossing(crossing.turned(m))
 }
 
+// The least so far, with the stop alongside where it stands.
+fn with_alongside(alongside: Alongside, top: u32, sofar: u32) -> u32
+    ensures { λ r. ⌜ r ≡ leastIf (alongside .on) (stopSpeed (alongside .increased) top) sofar ⌝ }
+{
+    if alongside.on {
+        return leaf::least(sofar, stop_speed(alongside.increased, top));
+    }
+    sofar
+}
+
 // The least of vmax, T, BTS speed in BTS, the main control and the stop alongside.
 fn signals_least(d: Desk, settings: Settings, top: u32) -> u32
     ensures { λ r. ⌜ r ≡ signalsLeast settings top d ⌝ }
@@ -77,11 +89,7 @@ fn signals_least(d: Desk, settings: Settings, top: u32) -> u32
     let vehicle = leaf::least(leaf::hundredths(settings.vmax), top);
     let in_mode = least_if(d.bts, leaf::hundredths(settings.bts), vehicle);
     let with_main = least_if(main.limits(), main_speed(main, settings, top), in_mode);
-    least_if(
-        alongside.on,
-        stop_speed(alongside.increased, top),
-        with_main,
-    )
+    with_alongside(alongside, top, with_main)
 }
 
 // The least so far, with the crossing where it stands.

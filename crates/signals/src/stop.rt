@@ -141,7 +141,7 @@ impl Reminder {
         }
     }
 
-    fn is_off(self) -> bool
+    pub fn is_off(self) -> bool
         ensures { λ r. ⌜ r ≡ isOff (self .phase) ⌝ }
     {
         let phase = self.phase;
@@ -219,10 +219,6 @@ impl Reminder {
     pub fn reminded(self, main: Main, function_2: bool, x: u16, y: u16) -> Reminder
         ensures { λ r. ⌜ r ≡ remindedOf main function_2 x y self ⌝ }
     {
-        let off = self.is_off();
-        if off {
-            return self;
-        }
         let missed = self.missed();
         let first = self.first_met(main) & function_2;
         let second = self.second_met(main.increased, x, y);

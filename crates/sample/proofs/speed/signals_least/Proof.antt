@@ -5,11 +5,10 @@ use Rattle.sample.specs.Speed.{signalsLeast}
 
 returns : tie.Need-returns
 unfolding signalsLeast
-returns c = simp (c .least-if3 .ensures, c .before .stop-speed .ensures, c .before .before .least-if2 .ensures, c .before .before .before .main-speed .ensures, c .before .before .before .before .limits .ensures, c .before .before .before .before .before .least-if .ensures, c .before .before .before .before .before .before .hundredths2 .ensures, c .before .before .before .before .before .before .before .least .ensures, c .before .before .before .before .before .before .before .before .hundredths .ensures)
+returns c = simp (c .with-alongside .ensures, c .before .least-if2 .ensures, c .before .before .main-speed .ensures, c .before .before .before .limits .ensures, c .before .before .before .before .least-if .ensures, c .before .before .before .before .before .hundredths2 .ensures, c .before .before .before .before .before .before .least .ensures, c .before .before .before .before .before .before .before .hundredths .ensures)
 
 pub signals-least-spec : {M : Type 1} → statement M
 signals-least-spec =
     tie.close
     (tie.spec (λ c κs. search needs) (λ c κs. search needs) (λ c κs. search needs) (λ c κs. search needs)
-    (λ c κs. search needs) (λ c κs. search needs) (λ c κs. search needs) (λ c κs. search needs)
-    (λ c κs. search needs) returns)
+    (λ c κs. search needs) (λ c κs. search needs) (λ c κs. search needs) (λ c κs. search needs) returns)
