@@ -5,325 +5,94 @@ use card::Row;
 use card::Settings;
 use card::Written;
 use leaf::Refusal;
+use shell::digit;
+use shell::next;
+use shell::number;
+use shell::say;
 
-// Each card is its record and, behind it, garbage that would pass for a version 2 card's last bytes.
+// ---- the cards: each its record and, behind it, garbage that would pass for a version 2 card's last bytes
 
 // Document 01's card A: version 1.
-const A: [u8; 48] = [
-    0x00,
-    0x27,
-    0x01,
-    0xA0,
-    0x00,
-    0x64,
-    0x50,
-    0xA0,
-    0x78,
-    0x4B,
-    0x14,
-    0xA0,
-    0x50,
-    0x4B,
-    0x16,
-    0xA0,
-    0x64,
-    0x4B,
-    0x16,
-    0xA0,
-    0x50,
-    0x4B,
-    0x16,
-    0x50,
-    0x28,
-    0x14,
-    0x14,
-    0x9B,
-    0x1E,
-    0x14,
-    0x16,
-    0xA0,
-    0x3C,
-    0x4B,
-    0x16,
-    0x64,
-    0x64,
-    0x00,
-    0x01,
-    0x0F,
-    0x00,
-    0xC8,
-    0x01,
-    0xF4,
-    0xEE,
-    0xEE,
-    0xEE,
-    0xEE,
-];
-
-// vmax 160, types 4 to 6, version 2, all functions.
-const R: [u8; 48] = [
-    0x00,
-    0x2C,
-    0x02,
-    0xA0,
-    0x00,
-    0x64,
-    0x64,
-    0xA0,
-    0xA0,
-    0x4B,
-    0x16,
-    0xA0,
-    0x50,
-    0x4B,
-    0x16,
-    0xA0,
-    0x50,
-    0x4B,
-    0x16,
-    0xA0,
-    0x50,
-    0x4B,
-    0x16,
-    0x32,
-    0x0F,
-    0x14,
-    0x14,
-    0xA0,
-    0x1E,
-    0x4B,
-    0x16,
-    0xA0,
-    0x3C,
-    0x4B,
-    0x16,
-    0x8C,
-    0x8C,
-    0x00,
-    0x01,
-    0x0F,
-    0x00,
-    0xC8,
-    0x01,
-    0xF4,
-    0xEE,
-    0xEE,
-    0xEE,
-    0xEE,
-];
-
-// The same vehicle with types 1 to 3.
-const RL: [u8; 48] = [
-    0x00,
-    0x2C,
-    0x02,
-    0xA0,
-    0x00,
-    0x64,
-    0x64,
-    0xA0,
-    0xA0,
-    0x4B,
-    0x16,
-    0xA0,
-    0x3C,
-    0x4B,
-    0x16,
-    0xA0,
-    0x3C,
-    0x4B,
-    0x16,
-    0xA0,
-    0x3C,
-    0x4B,
-    0x16,
-    0x28,
-    0x0F,
-    0x14,
-    0x14,
-    0xA0,
-    0x1E,
-    0x4B,
-    0x16,
-    0xA0,
-    0x3C,
-    0x4B,
-    0x16,
-    0x8C,
-    0x8C,
-    0x00,
-    0x01,
-    0x0F,
-    0x00,
-    0xC8,
-    0x01,
-    0xF4,
-    0xEE,
-    0xEE,
-    0xEE,
-    0xEE,
-];
-
-// vmax 200, types 4 to 8.
-const R2: [u8; 48] = [
-    0x00,
-    0x2C,
-    0x02,
-    0xC8,
-    0x00,
-    0x64,
-    0x64,
-    0xC8,
-    0xA0,
-    0x4B,
-    0x16,
-    0xA0,
-    0x50,
-    0x4B,
-    0x16,
-    0xA0,
-    0x50,
-    0x4B,
-    0x16,
-    0xA0,
-    0x50,
-    0x4B,
-    0x16,
-    0x32,
-    0x0F,
-    0x14,
-    0x14,
-    0xA0,
-    0x1E,
-    0x4B,
-    0x16,
-    0xA0,
-    0x3C,
-    0x4B,
-    0x16,
-    0x8C,
-    0x8C,
-    0x00,
-    0x01,
-    0x0F,
-    0x00,
-    0xC8,
-    0x01,
-    0xF4,
-    0xEE,
-    0xEE,
-    0xEE,
-    0xEE,
-];
-
-// Software before 2015: version 1.
-const P: [u8; 48] = [
-    0x00,
-    0x27,
-    0x01,
-    0xA0,
-    0x00,
-    0x64,
-    0x64,
-    0xA0,
-    0xA0,
-    0x4B,
-    0x16,
-    0xA0,
-    0x50,
-    0x4B,
-    0x16,
-    0xA0,
-    0x50,
-    0x4B,
-    0x16,
-    0xA0,
-    0x50,
-    0x4B,
-    0x16,
-    0x3C,
-    0x1E,
-    0x14,
-    0x14,
-    0xA0,
-    0x1E,
-    0x4B,
-    0x16,
-    0xA0,
-    0x3C,
-    0x4B,
-    0x16,
-    0x8C,
-    0x8C,
-    0x00,
-    0x01,
-    0x0F,
-    0x00,
-    0xC8,
-    0x01,
-    0xF4,
-    0xEE,
-    0xEE,
-    0xEE,
-    0xEE,
-];
-
-// The damages: a byte's position, and what is put there.
-const DAMAGES: [u8; 36] = [
-    0,
-    1,
-    1,
-    38,
-    2,
-    0,
-    2,
-    3,
-    3,
-    79,
-    4,
-    4,
-    5,
-    9,
-    6,
-    0,
-    7,
-    201,
-    8,
-    0,
-    9,
-    255,
-    10,
-    0,
-    12,
-    161,
-    35,
-    139,
-    38,
-    0,
-    39,
-    16,
-    40,
-    24,
-    42,
-    20,
-];
-
-fn number(n: u16) {
-    io::write_all(1, b" ");
-    io::print_decimal(1, n as u64);
+fn card_a() -> [u8; 48] {
+    bytes_of(
+        b"002701A0006450 A0784B14 A0504B16 A0644B16 A0504B16 50281414 9B1E1416 A03C4B16 64640001 0F00C801F4 EEEEEEEE",
+    )
 }
 
+// vmax 160, types 4 to 6, version 2, all functions.
+fn card_r() -> [u8; 48] {
+    bytes_of(
+        b"002C02A0006464 A0A04B16 A0504B16 A0504B16 A0504B16 320F1414 A01E4B16 A03C4B16 8C8C0001 0F00C801F4 EEEEEEEE",
+    )
+}
+
+// The same vehicle with types 1 to 3.
+fn card_rl() -> [u8; 48] {
+    bytes_of(
+        b"002C02A0006464 A0A04B16 A03C4B16 A03C4B16 A03C4B16 280F1414 A01E4B16 A03C4B16 8C8C0001 0F00C801F4 EEEEEEEE",
+    )
+}
+
+// vmax 200, types 4 to 8.
+fn card_r2() -> [u8; 48] {
+    bytes_of(
+        b"002C02C8006464 C8A04B16 A0504B16 A0504B16 A0504B16 320F1414 A01E4B16 A03C4B16 8C8C0001 0F00C801F4 EEEEEEEE",
+    )
+}
+
+// Software before 2015: version 1.
+fn card_p() -> [u8; 48] {
+    bytes_of(
+        b"002701A0006464 A0A04B16 A0504B16 A0504B16 A0504B16 3C1E1414 A01E4B16 A03C4B16 8C8C0001 0F00C801F4 EEEEEEEE",
+    )
+}
+
+// The bytes that hexadecimal digits write; what is no digit is passed over.
+fn bytes_of(hex: &[u8]) -> [u8; 48] {
+    let mut bytes = [0u8; 48];
+    let mut halves = 0;
+    let mut i = 0;
+    while i < hex.len() {
+        halves = put_half(&mut bytes, halves, digit(hex[i]));
+        i += 1;
+    }
+    bytes
+}
+
+// A digit behind so many others, where there is room for it: how many there are then.
+fn put_half(bytes: &mut [u8; 48], halves: usize, digit: u8) -> usize {
+    let at = halves / 2;
+    if at < 48 {
+        if digit < 16 {
+            bytes[at] = bytes[at] % 16 * 16 + digit;
+            return halves + 1;
+        }
+    }
+    halves
+}
+
+// The card with another byte in one place.
+fn with_byte(mut card: [u8; 48], at: u8, value: u8) -> [u8; 48] {
+    let i = at as usize;
+    if i < 48 {
+        card[i] = value;
+    }
+    card
+}
+
+// ---- reading
+
 fn row(r: Row) {
-    number(r.initial as u16);
-    number(r.last as u16);
-    number(r.delay as u16);
-    number(r.drop as u16);
+    next(r.initial as u16);
+    next(r.last as u16);
+    next(r.delay as u16);
+    next(r.drop as u16);
 }
 
 fn settings(s: Settings) {
-    number(s.vmax as u16);
-    number(s.tick);
-    number(s.bts as u16);
+    next(s.vmax as u16);
+    next(s.tick);
+    next(s.bts as u16);
     row(s.clear);
     row(s.announcement);
     row(s.preannouncement);
@@ -332,21 +101,14 @@ fn settings(s: Settings) {
     row(s.crossing);
     row(s.limit);
     row(s.start);
-    number(s.functions as u16);
-    number(s.x);
-    number(s.y);
+    next(s.functions as u16);
+    next(s.x);
+    next(s.y);
 }
 
 fn refusal(why: Refusal) {
-    io::write_all(1, b" refused");
-    match why {
-        Refusal::Number(n) => number(n as u16),
-        Refusal::At(n, place) => {
-            number(n as u16);
-            io::write_all(1, b" at");
-            number(place as u16);
-        }
-    }
+    say(b" ");
+    shell::refusal(why);
 }
 
 // What the reader answers, on a line.
@@ -356,99 +118,95 @@ fn answer(area: &[u8], highest: u8) {
         Reading::Read(s) => settings(s),
         Reading::Refused(why) => refusal(why),
     }
-    io::write_all(1, b"\n");
+    say(b"\n");
 }
 
 // The area's first n bytes, read under a highest version.
 fn cut(area: &[u8], n: usize, highest: u8) {
-    io::print_decimal(1, n as u64);
-    io::write_all(1, b" bytes under");
-    number(highest as u16);
-    io::write_all(1, b":");
+    number(n as u64);
+    say(b" bytes under");
+    next(highest as u16);
+    say(b":");
     if n <= area.len() {
         answer(&area[..n], highest);
     }
 }
 
-fn whole(area: &[u8; 48]) {
-    answer(area, 2);
-}
-
 // The card with one byte changed, and garbage behind it, read under highest version 2.
-fn damaged(c: [u8; 48], at: u8, value: u8) {
-    io::write_all(1, b"byte");
-    number(at as u16);
-    io::write_all(1, b" is");
-    number(value as u16);
-    io::write_all(1, b":");
-    let mut d = c;
-    let i = at as usize;
-    if i < 48 {
-        d[i] = value;
-    }
-    whole(&d);
+fn damaged(card: [u8; 48], at: u8, value: u8) {
+    say(b"byte");
+    next(at as u16);
+    say(b" is");
+    next(value as u16);
+    say(b":");
+    let area = with_byte(card, at, value);
+    answer(&area, 2);
 }
 
-fn damages(c: [u8; 48]) {
-    let mut i = 0;
-    while i < 18 {
-        let at = DAMAGES[2 * i];
-        let value = DAMAGES[2 * i + 1];
-        damaged(c, at, value);
-        i += 1;
-    }
+fn header_damaged(card: [u8; 48]) {
+    damaged(card, 0, 1);
+    damaged(card, 1, 38);
+    damaged(card, 2, 0);
+    damaged(card, 2, 3);
 }
 
-// Reads a card whose record has n bytes.
-fn lesson(c: [u8; 48], n: usize) {
-    cut(&c, n, 2);
-    cut(&c, n, 1);
-    cut(&c, n, 0);
-    cut(&c, n, 3);
-    cut(&c, 48, 2);
-    cut(&c, 40, 2);
-    cut(&c, 38, 2);
-    cut(&c, 3, 2);
-    cut(&c, 2, 2);
-    damages(c);
+fn settings_damaged(card: [u8; 48]) {
+    damaged(card, 3, 79);
+    damaged(card, 4, 4);
+    damaged(card, 5, 9);
+    damaged(card, 6, 0);
+    damaged(card, 7, 201);
+    damaged(card, 8, 0);
+    damaged(card, 9, 255);
+    damaged(card, 10, 0);
+    damaged(card, 12, 161);
+    damaged(card, 35, 139);
+    damaged(card, 38, 0);
+    damaged(card, 39, 16);
+    damaged(card, 40, 24);
+    damaged(card, 42, 20);
 }
 
-fn hex(bytes: &[u8]) {
-    let mut i = 0;
-    while i < bytes.len() {
-        let b = bytes[i];
-        io::print_hex(1, wide(b), 2);
-        i += 1;
-    }
-    io::write_all(1, b"\n");
+// A card whose record has n bytes, whole, cut short, and under each highest version.
+fn cuts(area: &[u8], n: usize) {
+    cut(area, n, 2);
+    cut(area, n, 1);
+    cut(area, n, 0);
+    cut(area, n, 3);
+    cut(area, 48, 2);
+    cut(area, 40, 2);
+    cut(area, 38, 2);
+    cut(area, 3, 2);
+    cut(area, 2, 2);
 }
 
-fn wide(x: u8) -> u64 {
-    x as u64
+fn lesson(card: [u8; 48], n: usize) {
+    cuts(&card, n);
+    header_damaged(card);
+    settings_damaged(card);
 }
+
+// ---- writing back
 
 // Writes the settings and prints the whole buffer after it.
 fn write_in(s: Settings, version: u8, buffer: &mut [u8]) {
     let answer = card::write(version, s, buffer);
     match answer {
-        Written::Done => {
-            io::write_all(1, b" done\n");
-        }
-        Written::NotWritten(why) => {
-            refusal(why);
-            io::write_all(1, b"\n");
-        }
+        Written::Done => say(b" done"),
+        Written::NotWritten(why) => refusal(why),
     }
-    hex(buffer);
+    say(b"\n");
+    shell::hex(buffer);
+    say(b"\n");
 }
 
 // Reads the card and writes its settings beside a version into n bytes that all held 0x55.
 fn written(area: &[u8], version: u8, n: usize) {
-    io::write_all(1, b"version");
-    number(version as u16);
-    io::write_all(1, b" into ");
-    io::print_decimal(1, n as u64);
-    io::write_all(1, b":");
+    say(b"version");
+    next(version as u16);
+    say(b" into ");
+    number(n as u64);
+    say(b":");
     let answer = card::read(area, 2);
     let Reading::Read(s) = answer else {
         return;
@@ -459,42 +217,49 @@ fn written(area: &[u8], version: u8, n: usize) {
     }
 }
 
-// Card R with its reminder off, and what stands in bytes 40 to 43 silent.
-fn quiet() -> [u8; 48] {
-    let mut c = R;
-    c[39] = 0x0B;
-    c
+fn a_written(area: &[u8]) {
+    say(b"card A written\n");
+    written(area, 1, 48);
+    written(area, 2, 48);
+    written(area, 1, 38);
+    written(area, 0, 38);
+    written(area, 3, 48);
+}
+
+fn r_written(area: &[u8]) {
+    say(b"card R written\n");
+    written(area, 2, 44);
+    written(area, 2, 43);
+    written(area, 1, 48);
+    written(area, 1, 10);
+}
+
+// Card R with its reminder off, so that what stands in bytes 40 to 43 is silent.
+fn quiet_written(area: &[u8]) {
+    say(b"card R without reminder\n");
+    cut(area, 44, 2);
+    written(area, 2, 48);
+}
+
+fn rewrite() {
+    let a = card_a();
+    let r = card_r();
+    let quiet = with_byte(r, 39, 0x0B);
+    a_written(&a);
+    r_written(&r);
+    quiet_written(&quiet);
 }
 
 fn main() {
-    io::write_all(1, b"card A\n");
-    lesson(A, 39);
-    io::write_all(1, b"card R\n");
-    lesson(R, 44);
-    io::write_all(1, b"card RL\n");
-    lesson(RL, 44);
-    io::write_all(1, b"card R2\n");
-    lesson(R2, 44);
-    io::write_all(1, b"card P\n");
-    lesson(P, 39);
+    say(b"card A\n");
+    lesson(card_a(), 39);
+    say(b"card R\n");
+    lesson(card_r(), 44);
+    say(b"card RL\n");
+    lesson(card_rl(), 44);
+    say(b"card R2\n");
+    lesson(card_r2(), 44);
+    say(b"card P\n");
+    lesson(card_p(), 39);
     rewrite();
-}
-
-// Written back: card A, card R, and card R with its reminder off.
-fn rewrite() {
-    io::write_all(1, b"card A written\n");
-    written(&A, 1, 48);
-    written(&A, 2, 48);
-    written(&A, 1, 38);
-    written(&A, 0, 38);
-    written(&A, 3, 48);
-    io::write_all(1, b"card R written\n");
-    written(&R, 2, 44);
-    written(&R, 2, 43);
-    written(&R, 1, 48);
-    written(&R, 1, 10);
-    io::write_all(1, b"card R without reminder\n");
-    let q = quiet();
-    cut(&q, 44, 2);
-    written(&q, 2, 48);
 }

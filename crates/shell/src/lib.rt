@@ -1,5 +1,5 @@
-// What the programs of the bench share: words and numbers on standard output, the file that a program's argument names,
-// lines of standard input, and the bit pattern of a float.
+// What the programs of the bench and the test programs share: words and numbers on standard output, the file that a
+// program's argument names, lines of standard input, hexadecimal digits, and the bit pattern of a float.
 //
 // No public function has a `requires`. No contract can say what is read or written, so the functions that only write have
 // none; a count of bytes read lies within the buffer that was lent for them.
@@ -8,7 +8,10 @@ ghost use Prim.Native.Nat.{_≤_};
 ghost use lib.ListN.{length};
 ghost use lib.Ieee.{binary32, toBits};
 ghost use Rattle.io.specs.Counts.{Counts};
+ghost use Rattle.shell.specs.Digits.{digitOf};
 use leaf::Refusal;
+use leaf::choose8;
+use leaf::in_range;
 
 // An argument of any length fits: the system hands a program no longer one.
 const NAME_MOST: usize = 131072;
@@ -30,6 +33,12 @@ pub fn number(n: u64) {
     io::print_decimal(1, n);
 }
 
+// A number behind others on its line: a blank, and the number.
+pub fn next(n: u16) {
+    io::write_all(1, b" ");
+    io::print_decimal(1, n as u64);
+}
+
 // A number of tenths, with its one decimal.
 pub fn tenths(n: u16) {
     io::print_decimal(1, (n / 10) as u64);
@@ -48,6 +57,19 @@ pub fn hundredths(n: u16) {
 // The eight hexadecimal digits of a bit pattern.
 pub fn pattern(bits: u32) {
     io::print_hex(1, bits as u64, 8);
+}
+
+// Each byte as two hexadecimal digits.
+pub fn hex(bytes: &[u8]) {
+    let mut i = 0;
+    while i < bytes.len() {
+        io::print_hex(1, wide(bytes[i]), 2);
+        i += 1;
+    }
+}
+
+fn wide(x: u8) -> u64 {
+    x as u64
 }
 
 // `refused N`, or `refused N at PLACE`.
@@ -219,6 +241,16 @@ fn before_return(line: &[u8], n: usize) -> usize
     } else {
         n
     }
+}
+
+// The value of a hexadecimal digit in either case, 16 for any other byte.
+pub fn digit(b: u8) -> u8
+    ensures { λ r. ⌜ r ≡ digitOf b ⌝ }
+{
+    let place = b as u16;
+    let letter = in_range(0x41, 0x46, place) | in_range(0x61, 0x66, place);
+    let other = choose8(letter, b % 16 + 9, 16);
+    choose8(in_range(0x30, 0x39, place), b % 16, other)
 }
 
 // The next byte of standard input, 256 at its end.

@@ -2,15 +2,13 @@
 // stands at the refusal's place. A tone is a line of eight hexadecimal digits, the bit pattern of its f32 in kHz.
 use leaf::Refusal;
 use shell::bits_of;
+use shell::digit;
 use shell::number;
 use shell::pattern;
 use shell::say;
 use tone::Fault;
 use tone::Reading;
 use tone::ToneAnswer;
-
-// No digit.
-const NONE: u8 = 16;
 
 // ---- the sheet's refusal
 
@@ -74,21 +72,11 @@ fn show_tone(sheet: &[u8], bits: u32) {
     }
 }
 
-// The value of a hexadecimal digit in either case, 16 for any other byte.
-fn digit(b: u8) -> u8 {
-    match b {
-        48..=57 => b - 48,
-        65..=70 => b - 55,
-        97..=102 => b - 87,
-        _ => NONE,
-    }
-}
-
 fn is_tone(line: &[u8]) -> bool {
     let mut fine = line.len() == 8;
     let mut i = 0;
     while i < line.len() {
-        fine = fine & (digit(line[i]) != NONE);
+        fine = fine & (digit(line[i]) < 16);
         i += 1;
     }
     fine

@@ -1,6 +1,9 @@
 // Reads tones under a sheet of the pickup's true tones and under damaged ones, and writes what each reads as: the tone's bit
 // pattern, the answer with its offset's bit pattern, and the ride's code; or the refusal and its place.
-use leaf::Refusal;
+use shell::bits_of;
+use shell::pattern;
+use shell::refusal;
+use shell::say;
 use tone::Reading;
 use tone::ToneAnswer;
 
@@ -52,54 +55,33 @@ fn accepted() -> [u8; 147] {
     with_row(s, 11, 0x42fd0000, 0x42fe0000, 0x42ff0000)
 }
 
-// A number's bit pattern, and a NaN's for a NaN.
-fn bits_of(x: f32) -> u32 {
-    if x == x { f32::to_bits(x) } else { 0x7fc0_0000 }
-}
-
 fn show_reading(reading: Reading) {
     match reading {
         Reading::Beacon(number, offset) => {
-            io::write_all(1, b"beacon ");
-            io::print_decimal(1, number as u64);
-            io::write_all(1, b" ");
-            io::print_hex(1, bits_of(offset) as u64, 8);
+            say(b"beacon ");
+            shell::number(number as u64);
+            say(b" ");
+            pattern(bits_of(offset));
         }
         Reading::Permanent(offset) => {
-            io::write_all(1, b"permanent ");
-            io::print_hex(1, bits_of(offset) as u64, 8);
+            say(b"permanent ");
+            pattern(bits_of(offset));
         }
-        Reading::Nothing => {
-            io::write_all(1, b"nothing");
-        }
+        Reading::Nothing => say(b"nothing"),
     }
-    io::write_all(1, b", code ");
-    io::print_decimal(1, reading.code() as u64);
-}
-
-fn show_refusal(refusal: Refusal) {
-    io::write_all(1, b"refused ");
-    match refusal {
-        Refusal::Number(number) => {
-            io::print_decimal(1, number as u64);
-        }
-        Refusal::At(number, place) => {
-            io::print_decimal(1, number as u64);
-            io::write_all(1, b" at ");
-            io::print_decimal(1, place as u64);
-        }
-    }
+    say(b", code ");
+    shell::number(reading.code() as u64);
 }
 
 fn show(area: &[u8], bits: u32) {
-    io::print_hex(1, bits as u64, 8);
-    io::write_all(1, b" ");
+    pattern(bits);
+    say(b" ");
     let answer = tone::classify(area, tone::float_of(bits));
     match answer {
         ToneAnswer::Reads(reading) => show_reading(reading),
-        ToneAnswer::Refused(refusal) => show_refusal(refusal),
+        ToneAnswer::Refused(why) => refusal(why),
     }
-    io::write_all(1, b"\n");
+    say(b"\n");
 }
 
 fn read(sheet: [u8; 147], bits: u32) {

@@ -3,14 +3,10 @@
 use card::Reading;
 use card::Row;
 use card::Settings;
+use shell::next;
 use shell::number;
 use shell::refusal;
 use shell::say;
-
-fn next(n: u16) {
-    say(b" ");
-    number(n as u64);
-}
 
 fn row(r: Row) {
     next(r.initial as u16);

@@ -41,20 +41,12 @@ fn settings_of(case: &[u8]) -> Settings {
     }
 }
 
-fn wide(x: u8) -> u64 {
-    x as u64
-}
-
 // The buffer in hexadecimal, `-` where it is empty.
-fn hex(bytes: &[u8]) {
+fn show(bytes: &[u8]) {
     if bytes.len() == 0 {
         say(b"-");
     }
-    let mut i = 0;
-    while i < bytes.len() {
-        io::print_hex(1, wide(bytes[i]), 2);
-        i += 1;
-    }
+    shell::hex(bytes);
 }
 
 fn answer(version: u8, s: Settings, buffer: &mut [u8]) {
@@ -64,7 +56,7 @@ fn answer(version: u8, s: Settings, buffer: &mut [u8]) {
         Written::NotWritten(why) => refusal(why),
     }
     say(b" ");
-    hex(buffer);
+    show(buffer);
     say(b"\n");
 }
 

@@ -5,10 +5,10 @@ use Rattle.session_cases.proofs.run.Statement.{statement}
 use Rattle.session_cases.proofs.run.Tie as tie
 
 abbrev Inv-loop : tie.InvT-loop
-Inv-loop text ride₀ line₀ i₀ ride line i = Unit
+Inv-loop text opened₀ line₀ i₀ opened line i = Unit
 
 abbrev μ-loop : tie.MeasureT-loop
-μ-loop text ride₀ line₀ i₀ ride line i = length text - i
+μ-loop text opened₀ line₀ i₀ opened line i = length text - i
 
 pub run-spec : {M : Type 1} → statement M
 run-spec =

@@ -1,0 +1,17 @@
+use Prim.Native.Nat.{_-_}
+use lib.ListN.{length}
+use borrow.Author.Needs.{needs}
+use Rattle.card_cases.proofs.bytes_of.Statement.{statement}
+use Rattle.card_cases.proofs.bytes_of.Tie as tie
+
+abbrev Inv-loop : tie.InvT-loop
+Inv-loop hex bytes₀ halves₀ i₀ bytes halves i = Unit
+
+abbrev μ-loop : tie.MeasureT-loop
+μ-loop hex bytes₀ halves₀ i₀ bytes halves i = length hex - i
+
+pub bytes-of-spec : {M : Type 1} → statement M
+bytes-of-spec =
+    tie.close
+    (tie.spec Inv-loop μ-loop (λ c. search needs) (λ c. search needs) (λ c κs. search needs) (λ c κs. search needs)
+    (λ c. search needs) (λ c. search needs) (λ c. search needs) (λ c. search needs))
