@@ -1,8 +1,5 @@
-// The notation of session_cases: a line of its input, byte by byte, and what a sample is answered with as its output has it.
-// What each line means is said at the head of that program.
-//
-// It serves a test: each function is proved to end and to do nothing undefined, on every input, and promises no more. What
-// the program writes with it is compared with stored lines.
+// The program's notation: a line of its input, byte by byte, and what a sample is answered with as its output has it. What
+// each line means is said at the head of main.rt.
 use leaf::Refusal;
 use leaf::choose8;
 use leaf::choose16;
