@@ -5,16 +5,10 @@ use Rattle.printed.proofs.Texts.{typed-held}
 use Rattle.printed.proofs.print_heading.Statement.{statement}
 use Rattle.printed.proofs.print_heading.Tie as tie
 
-put-heading-requires : tie.Need-put-heading-requires
-put-heading-requires c κs = search needs
-
-same-length : tie.Need-same-length
-same-length c = search needs
-
 returns : tie.Need-returns
 returns c =
     let e = c .before .before .put-heading .ensures ∙ typed-over _ _ in
     (ap (λ (s : Sheet). s .1) e, (ap (λ (s : Sheet). s .0) e, typed-held _ _ _ (c .before .before .put-heading .ensures)))
 
 pub print-heading-spec : {M : Type 1} → statement M
-print-heading-spec = tie.close (tie.spec put-heading-requires same-length returns)
+print-heading-spec = tie.close (tie.spec (λ c κs. search needs) (λ c. search needs) returns)

@@ -5,16 +5,10 @@ use Rattle.printed.proofs.Texts.{typed-held}
 use Rattle.printed.proofs.print_ride.Statement.{statement}
 use Rattle.printed.proofs.print_ride.Tie as tie
 
-put-ride-requires : tie.Need-put-ride-requires
-put-ride-requires c κs = search needs
-
-same-length : tie.Need-same-length
-same-length c = search needs
-
 returns : tie.Need-returns
 returns c =
     let e = c .before .before .put-ride .ensures ∙ typed-over _ _ in
     (ap (λ (s : Sheet). s .1) e, (ap (λ (s : Sheet). s .0) e, typed-held _ _ _ (c .before .before .put-ride .ensures)))
 
 pub print-ride-spec : {M : Type 1} → statement M
-print-ride-spec = tie.close (tie.spec put-ride-requires same-length returns)
+print-ride-spec = tie.close (tie.spec (λ c κs. search needs) (λ c. search needs) returns)

@@ -5,21 +5,6 @@ use borrow.Author.Needs.{needs}
 use Rattle.printed.proofs.put_ride.Statement.{statement}
 use Rattle.printed.proofs.put_ride.Tie as tie
 
-put-heading-requires : tie.Need-put-heading-requires
-put-heading-requires c κs = search needs
-
-read-requires : tie.Need-read-requires
-read-requires c κs = search needs
-
-samples-requires : tie.Need-samples-requires
-samples-requires c κs = search needs
-
-put-read-requires : tie.Need-put-read-requires
-put-read-requires c κs = search needs
-
-same-length : tie.Need-same-length
-same-length c = search needs
-
 returns : tie.Need-returns
 unfolding printedRide
 returns c =
@@ -29,10 +14,5 @@ returns c =
 pub put-ride-spec : {M : Type 1} → statement M
 put-ride-spec =
     tie.close
-    (tie.spec
-    put-heading-requires
-    read-requires
-    samples-requires
-    put-read-requires
-    same-length
+    (tie.spec (λ c κs. search needs) (λ c κs. search needs) (λ c κs. search needs) (λ c κs. search needs) (λ c. search needs)
     returns)

@@ -4,30 +4,9 @@ use borrow.Author.Needs.{needs}
 use Rattle.printed.proofs.put_shown.Statement.{statement}
 use Rattle.printed.proofs.put_shown.Tie as tie
 
-enum-known-shown : tie.Need-enum-known-shown
-enum-known-shown c = search needs
-
-put-answer-requires : tie.Need-put-answer-requires
-put-answer-requires c κs = search needs
-
-enum-known-shown-2 : tie.Need-enum-known-shown-2
-enum-known-shown-2 c = search needs
-
-put-refused-requires : tie.Need-put-refused-requires
-put-refused-requires c κs = search needs
-
-enum-told : tie.Need-enum-told
-enum-told c = search needs
-
-same-length : tie.Need-same-length
-same-length c = search needs
-
 returns : tie.Need-returns
 unfolding shownText
 returns c = rw (c .before .before .before .before .before .shown .given .1) (c .before .before .put-answer .ensures)
-
-same-length-2 : tie.Need-same-length-2
-same-length-2 c = search needs
 
 returns-2 : tie.Need-returns-2
 unfolding shownText
@@ -40,14 +19,5 @@ returns-3 c = rw (c .enum-told .given .1)
 pub put-shown-spec : {M : Type 1} → statement M
 put-shown-spec =
     tie.close
-    (tie.spec
-    enum-known-shown
-    put-answer-requires
-    enum-known-shown-2
-    put-refused-requires
-    enum-told
-    same-length
-    returns
-    same-length-2
-    returns-2
-    returns-3)
+    (tie.spec (λ c. search needs) (λ c κs. search needs) (λ c. search needs) (λ c κs. search needs) (λ c. search needs)
+    (λ c. search needs) returns (λ c. search needs) returns-2 returns-3)

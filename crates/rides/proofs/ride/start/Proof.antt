@@ -4,15 +4,6 @@ use Rattle.rides.proofs.ride.start.Tie as tie
 use Rattle.rides.specs.Ride.{startRide}
 use mathlib.Core.Path.{sym}
 
-is-good-requires : tie.Need-is-good-requires
-is-good-requires c κs = search needs
-
-byte-at-requires : tie.Need-byte-at-requires
-byte-at-requires c κs = search needs
-
-open-requires : tie.Need-open-requires
-open-requires c κs = search needs
-
 returns : tie.Need-returns
 unfolding startRide
 returns c = simp (c .«open» .ensures, c .before .if1 .taken, sym (c .before .before .byte-at .ensures), sym (c .before .before .before .is-good .ensures))
@@ -22,4 +13,4 @@ unfolding startRide
 returns-2 c = simp (c .if1 .left, sym (c .before .byte-at .ensures), sym (c .before .before .is-good .ensures))
 
 pub start-spec : {M : Type 1} → statement M
-start-spec = tie.close (tie.spec is-good-requires byte-at-requires open-requires returns returns-2)
+start-spec = tie.close (tie.spec (λ c κs. search needs) (λ c κs. search needs) (λ c κs. search needs) returns returns-2)

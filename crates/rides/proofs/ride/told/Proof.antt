@@ -3,15 +3,6 @@ use Rattle.rides.proofs.ride.told.Statement.{statement}
 use Rattle.rides.proofs.ride.told.Tie as tie
 use Rattle.rides.specs.Ride.{toldOf}
 
-enum-known-outcome : tie.Need-enum-known-outcome
-enum-known-outcome c = search needs
-
-enum-known-outcome-2 : tie.Need-enum-known-outcome-2
-enum-known-outcome-2 c = search needs
-
-number-of-requires : tie.Need-number-of-requires
-number-of-requires c κs = search needs
-
 returns : tie.Need-returns
 unfolding toldOf
 returns c = simp (c .before .outcome .given .1)
@@ -23,4 +14,4 @@ returns-2 c = simp (c .number-of .ensures, c .before .before .outcome2 .given .1
 pub told-spec : {M : Type 1} → statement M
 told-spec =
     tie.close
-    (tie.spec enum-known-outcome enum-known-outcome-2 number-of-requires returns returns-2)
+    (tie.spec (λ c. search needs) (λ c. search needs) (λ c κs. search needs) returns returns-2)

@@ -3,12 +3,6 @@ use Rattle.rides.proofs.ride.Ride.turn.Statement.{statement}
 use Rattle.rides.proofs.ride.Ride.turn.Tie as tie
 use Rattle.rides.specs.Ride.{turnOf}
 
-sample-requires : tie.Need-sample-requires
-sample-requires c κs = search needs
-
-told-requires : tie.Need-told-requires
-told-requires c κs = search needs
-
 returns : tie.Need-returns
 unfolding turnOf
 returns c = simp (c .told .ensures, c .before .before .sample .ensures, c .before .before .before .before .if1 .taken)
@@ -18,4 +12,4 @@ unfolding turnOf
 returns-2 c = simp (c .if1 .left)
 
 pub turn-spec : {M : Type 1} → statement M
-turn-spec = tie.close (tie.spec sample-requires told-requires returns returns-2)
+turn-spec = tie.close (tie.spec (λ c κs. search needs) (λ c κs. search needs) returns returns-2)

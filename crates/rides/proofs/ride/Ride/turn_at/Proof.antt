@@ -3,42 +3,6 @@ use Rattle.rides.proofs.ride.Ride.turn_at.Statement.{statement}
 use Rattle.rides.proofs.ride.Ride.turn_at.Tie as tie
 use Rattle.rides.specs.Ride.{turnAt}
 
-mul-at : tie.Need-mul-at
-mul-at c = search needs
-
-add-at : tie.Need-add-at
-add-at c = search needs
-
-word-at-requires : tie.Need-word-at-requires
-word-at-requires c κs = search needs
-
-cast-byte-at : tie.Need-cast-byte-at
-cast-byte-at c = search needs
-
-add-byte-at : tie.Need-add-byte-at
-add-byte-at c = search needs
-
-byte-at-requires : tie.Need-byte-at-requires
-byte-at-requires c κs = search needs
-
-add-word-at : tie.Need-add-word-at
-add-word-at c = search needs
-
-word-at-requires-2 : tie.Need-word-at-requires-2
-word-at-requires-2 c κs = search needs
-
-cast-byte-at-2 : tie.Need-cast-byte-at-2
-cast-byte-at-2 c = search needs
-
-add-byte-at-2 : tie.Need-add-byte-at-2
-add-byte-at-2 c = search needs
-
-byte-at-requires-2 : tie.Need-byte-at-requires-2
-byte-at-requires-2 c κs = search needs
-
-turn-requires : tie.Need-turn-requires
-turn-requires c κs = search needs
-
 returns : tie.Need-returns
 unfolding turnAt
 returns c = simp (c .turn .ensures, c .before .byte-at2 .ensures, c .before .before .word-at2 .ensures, c .before .before .before .byte-at .ensures, c .before .before .before .before .word-at .ensures)
@@ -46,17 +10,6 @@ returns c = simp (c .turn .ensures, c .before .byte-at2 .ensures, c .before .bef
 pub turn-at-spec : {M : Type 1} → statement M
 turn-at-spec =
     tie.close
-    (tie.spec
-    mul-at
-    add-at
-    word-at-requires
-    cast-byte-at
-    add-byte-at
-    byte-at-requires
-    add-word-at
-    word-at-requires-2
-    cast-byte-at-2
-    add-byte-at-2
-    byte-at-requires-2
-    turn-requires
-    returns)
+    (tie.spec (λ c. search needs) (λ c. search needs) (λ c κs. search needs) (λ c. search needs) (λ c. search needs)
+    (λ c κs. search needs) (λ c. search needs) (λ c κs. search needs) (λ c. search needs) (λ c. search needs)
+    (λ c κs. search needs) (λ c κs. search needs) returns)
