@@ -104,17 +104,23 @@ pub struct File {
     pub length: usize,
 }
 
-// The file that the program's one argument names, from its first byte to its end or as far as buf goes. Where there is no
-// argument, or more than one, the usage line is written, and where the file cannot be opened or read `cannot read` and
-// its name; then no file is read and the length is 0.
+// Has the program its one argument. Where it has none, or more than one, the usage line is written.
+pub fn has_argument(usage: &[u8]) -> bool {
+    let one = os::arg_count() == 2;
+    if !one {
+        io::write_all(1, usage);
+    }
+    one
+}
+
+// The file that the program's one argument names, as `named_file` has it; none where there is not one argument.
 pub fn argument_file(usage: &[u8], buf: &mut [u8]) -> File
     ensures { λ r. ⌜ Counts (r .length) (now (buf .exit)) ⌝ }
 {
-    if os::arg_count() != 2 {
-        io::write_all(1, usage);
-        return no_file();
+    if has_argument(usage) {
+        return named_file(buf);
     }
-    named_file(buf)
+    no_file()
 }
 
 fn no_file() -> File
@@ -126,7 +132,9 @@ fn no_file() -> File
     }
 }
 
-fn named_file(buf: &mut [u8]) -> File
+// The file that the program's argument names, from its first byte to its end or as far as buf goes. Where it cannot be
+// opened or read, `cannot read` and its name are written; then no file is read and the length is 0.
+pub fn named_file(buf: &mut [u8]) -> File
     ensures { λ r. ⌜ Counts (r .length) (now (buf .exit)) ⌝ }
 {
     let mut name = [0u8; NAME_MOST];
