@@ -2,6 +2,8 @@
 //
 // All that is printed below the heading and of a card that could be read is one text of `printed::print_ride`. The bytes
 // read and written are the system's, of which no contract speaks.
+ghost use mathlib.Core.Path.{_≡_};
+ghost use lib.ListN.{length};
 use printed::Columns;
 use printed::print_heading;
 use printed::print_ride;
@@ -13,6 +15,20 @@ const RECORDING_ROOM: usize = 60007;
 // A heading of 34 bytes, and 10,000 lines of six numbers, none of more than ten digits and what ends it.
 const TEXT_ROOM: usize = 660040;
 
+// Room for the recording and for the text. Each says its length, which to lend it needs: a check that counts the zeros
+// takes seconds.
+fn recording_room() -> [u8; RECORDING_ROOM]
+    ensures { λ r. ⌜ 60007 ≡ length r ⌝ }
+{
+    [0; RECORDING_ROOM]
+}
+
+fn text_room() -> [u8; TEXT_ROOM]
+    ensures { λ r. ⌜ 660040 ≡ length r ⌝ }
+{
+    [0; TEXT_ROOM]
+}
+
 // Says the heading: how many bytes it has.
 fn say_heading(columns: Columns) -> usize {
     let mut space = [0u8; 64];
@@ -23,9 +39,9 @@ fn say_heading(columns: Columns) -> usize {
 
 // The ride of the recording on standard input, on this card, below the heading of h bytes.
 fn say_below(columns: Columns, card: &[u8], h: usize) {
-    let mut space = [0u8; RECORDING_ROOM];
+    let mut space = recording_room();
     let n = io::read_full(0, &mut space);
-    let mut text = [0u8; TEXT_ROOM];
+    let mut text = text_room();
     let end = print_ride(columns, card, &space[..n], &mut text);
     if h <= end {
         say(&text[h..end]);

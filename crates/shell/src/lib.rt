@@ -123,6 +123,13 @@ pub fn argument_file(usage: &[u8], buf: &mut [u8]) -> File
     no_file()
 }
 
+// Room for the name. It says its length, which to lend it needs: a check that counts the zeros takes seconds.
+fn name_room() -> [u8; NAME_MOST]
+    ensures { λ r. ⌜ 131072 ≡ length r ⌝ }
+{
+    [0; NAME_MOST]
+}
+
 fn no_file() -> File
     ensures { λ r. ⌜ r .length ≡ 0 ⌝ }
 {
@@ -137,7 +144,7 @@ fn no_file() -> File
 pub fn named_file(buf: &mut [u8]) -> File
     ensures { λ r. ⌜ Counts (r .length) (now (buf .exit)) ⌝ }
 {
-    let mut name = [0u8; NAME_MOST];
+    let mut name = name_room();
     let n = os::arg(1, &mut name);
     let fd = os::open_read(&name[..n]);
     let file = opened_file(fd, buf);

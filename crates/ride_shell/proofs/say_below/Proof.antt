@@ -8,6 +8,6 @@ part-say-end c = c .before .before .before .print-ride .ensures .1 .1
 pub say-below-spec : {M : Type 1} → statement M
 say-below-spec =
     tie.close
-    (tie.spec (λ c. search needs) (λ c κs. search needs) (λ c. search needs) (λ c. search needs) (λ c. search needs)
+    (tie.spec (λ c κs. search needs) (λ c. search needs) (λ c κs. search needs) (λ c κs. search needs) (λ c. search needs) (λ c. search needs) (λ c. search needs)
     (λ c κs. search needs) (λ c. search needs) part-say-end (λ c κs. search needs) (λ c. search needs)
     (λ c. search needs))
