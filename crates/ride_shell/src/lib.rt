@@ -15,7 +15,7 @@ const RECORDING_ROOM: usize = 60007;
 // A heading of 34 bytes, and 10,000 lines of six numbers, none of more than ten digits and what ends it.
 const TEXT_ROOM: usize = 660040;
 
-// Room for the recording and for the text. Each says its length, which to lend it needs: a check that counts the zeros
+// Room for the recording and for the text. Each ensures its length, which lending needs: a check that counts the zeros
 // takes seconds.
 fn recording_room() -> [u8; RECORDING_ROOM]
     ensures { λ r. ⌜ 60007 ≡ length r ⌝ }

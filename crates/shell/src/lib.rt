@@ -1,5 +1,5 @@
-// What the programs of the bench and the test programs share: words and numbers on standard output, the file that a
-// program's argument names, lines of standard input, hexadecimal digits, and the bit pattern of a float.
+// What the programs of the bench and the test programs share: words, numbers, refusals and a card's settings on standard
+// output, the file that a program's argument names, lines of standard input, hexadecimal digits, the bit pattern of a float.
 //
 // No public function has a `requires`. No contract can say what is read or written, so the functions that only write have
 // none; a count of bytes read lies within the buffer that was lent for them.
@@ -9,6 +9,9 @@ ghost use lib.ListN.{length};
 ghost use lib.Ieee.{binary32, toBits};
 ghost use Rattle.io.specs.Counts.{Counts};
 ghost use Rattle.shell.specs.Digits.{digitOf};
+use card::Reading;
+use card::Row;
+use card::Settings;
 use leaf::Refusal;
 use leaf::choose8;
 use leaf::in_range;
@@ -87,6 +90,39 @@ pub fn refusal(why: Refusal) {
     }
 }
 
+fn row(r: Row) {
+    next(r.initial as u16);
+    next(r.last as u16);
+    next(r.delay as u16);
+    next(r.drop as u16);
+}
+
+// A card's settings as numbers, in the card's order.
+fn settings(s: Settings) {
+    number(s.vmax as u64);
+    next(s.tick);
+    next(s.bts as u16);
+    row(s.clear);
+    row(s.announcement);
+    row(s.preannouncement);
+    row(s.caution);
+    row(s.before_stop);
+    row(s.crossing);
+    row(s.limit);
+    row(s.start);
+    next(s.functions as u16);
+    next(s.x);
+    next(s.y);
+}
+
+// What a card's reader answers: the settings, or the refusal.
+pub fn reading(answer: Reading) {
+    match answer {
+        Reading::Read(s) => settings(s),
+        Reading::Refused(why) => refusal(why),
+    }
+}
+
 // ---- the bit pattern of a float
 
 // For a NaN, which has many, 7fc00000.
@@ -123,7 +159,7 @@ pub fn argument_file(usage: &[u8], buf: &mut [u8]) -> File
     no_file()
 }
 
-// Room for the name. It says its length, which to lend it needs: a check that counts the zeros takes seconds.
+// Room for the name. It ensures its length, which lending needs: a check that counts the zeros takes seconds.
 fn name_room() -> [u8; NAME_MOST]
     ensures { λ r. ⌜ 131072 ≡ length r ⌝ }
 {
