@@ -1,13 +1,12 @@
 // Realistic cards and document 01's card A, read as they are, cut short, with garbage behind the record and damaged,
 // then written back. crates/card_cases/WHY.md says why each line of stdout is as it is.
 use card::Reading;
-use card::Row;
 use card::Settings;
 use card::Written;
-use leaf::Refusal;
 use shell::digit;
 use shell::next;
 use shell::number;
+use shell::refusal;
 use shell::say;
 
 // ---- the cards: each its record and, behind it, garbage that would pass for a version 2 card's last bytes
@@ -82,42 +81,10 @@ fn with_byte(mut card: [u8; 48], at: u8, value: u8) -> [u8; 48] {
 
 // ---- reading
 
-fn row(r: Row) {
-    next(r.initial as u16);
-    next(r.last as u16);
-    next(r.delay as u16);
-    next(r.drop as u16);
-}
-
-fn settings(s: Settings) {
-    next(s.vmax as u16);
-    next(s.tick);
-    next(s.bts as u16);
-    row(s.clear);
-    row(s.announcement);
-    row(s.preannouncement);
-    row(s.caution);
-    row(s.before_stop);
-    row(s.crossing);
-    row(s.limit);
-    row(s.start);
-    next(s.functions as u16);
-    next(s.x);
-    next(s.y);
-}
-
-fn refusal(why: Refusal) {
-    say(b" ");
-    shell::refusal(why);
-}
-
 // What the reader answers, on a line.
 fn answer(area: &[u8], highest: u8) {
-    let answer = card::read(area, highest);
-    match answer {
-        Reading::Read(s) => settings(s),
-        Reading::Refused(why) => refusal(why),
-    }
+    say(b" ");
+    shell::reading(card::read(area, highest));
     say(b"\n");
 }
 
@@ -190,9 +157,10 @@ fn lesson(card: [u8; 48], n: usize) {
 
 // Writes the settings and prints the whole buffer after it.
 fn write_in(s: Settings, version: u8, buffer: &mut [u8]) {
+    say(b" ");
     let answer = card::write(version, s, buffer);
     match answer {
-        Written::Done => say(b" done"),
+        Written::Done => say(b"done"),
         Written::NotWritten(why) => refusal(why),
     }
     say(b"\n");

@@ -1,12 +1,13 @@
-// What the programs share: the card from a file, the recording from standard input, the text to standard output.
+// What `ride` and `trace` share: the card from a file, the recording from standard input, the text to standard output.
 //
 // All that is printed below the heading and of a card that could be read is one text of `printed::print_ride`. The bytes
 // read and written are the system's, of which no contract speaks.
-use libc::STDIN_FILENO;
-use libc::STDOUT_FILENO;
+ghost use mathlib.Core.Path.{_≡_};
+ghost use lib.ListN.{length};
 use printed::Columns;
 use printed::print_heading;
 use printed::print_ride;
+use shell::say;
 
 // One byte more than the longest recording, 6 + 6 × 10,000 bytes: with that many it is refused, whatever follows.
 const RECORDING_ROOM: usize = 60007;
@@ -14,71 +15,50 @@ const RECORDING_ROOM: usize = 60007;
 // A heading of 34 bytes, and 10,000 lines of six numbers, none of more than ten digits and what ends it.
 const TEXT_ROOM: usize = 660040;
 
-// The longest argument that the system passes on.
-const NAME_ROOM: usize = 131072;
-
-fn write(bytes: &[u8]) {
-    io::write_all(STDOUT_FILENO, bytes);
+// Room for the recording and for the text. Each ensures its length, which lending needs: a check that counts the zeros
+// takes seconds.
+fn recording_room() -> [u8; RECORDING_ROOM]
+    ensures { λ r. ⌜ 60007 ≡ length r ⌝ }
+{
+    [0; RECORDING_ROOM]
 }
 
-// The line for a card's file that cannot be read.
-fn print_unread(name: &[u8]) {
-    write(b"cannot read ");
-    write(name);
-    write(b"\n");
+fn text_room() -> [u8; TEXT_ROOM]
+    ensures { λ r. ⌜ 660040 ≡ length r ⌝ }
+{
+    [0; TEXT_ROOM]
+}
+
+// Says the heading: how many bytes it has.
+fn say_heading(columns: Columns) -> usize {
+    let mut space = [0u8; 64];
+    let h = print_heading(columns, &mut space);
+    say(&space[..h]);
+    h
 }
 
 // The ride of the recording on standard input, on this card, below the heading of h bytes.
-fn print_below(columns: Columns, card: &[u8], h: usize) {
-    let mut space = [0u8; RECORDING_ROOM];
-    let n = io::read_full(STDIN_FILENO, &mut space);
-    let mut text = [0u8; TEXT_ROOM];
+fn say_below(columns: Columns, card: &[u8], h: usize) {
+    let mut space = recording_room();
+    let n = io::read_full(0, &mut space);
+    let mut text = text_room();
     let end = print_ride(columns, card, &space[..n], &mut text);
     if h <= end {
-        write(&text[h..end]);
+        say(&text[h..end]);
     }
 }
 
-// Does a read of fd fail.
-fn fails(fd: i32) -> bool {
-    let mut one = [0u8; 1];
-    libc::read(fd, &mut one) < 0
-}
-
-// The card's file, as far as there is room for it: more than the longest record. One that gives no byte is empty, or cannot
-// be read.
-fn print_card(columns: Columns, name: &[u8], fd: i32, h: usize) {
-    let mut space = io::buffer();
-    let n = io::read_full(fd, &mut space);
-    if n == 0 {
-        if fails(fd) {
-            print_unread(name);
-            return;
-        }
-    }
-    print_below(columns, &space[..n], h);
-}
-
-fn print_named(columns: Columns, name: &[u8]) {
-    let mut space = [0u8; 64];
-    let h = print_heading(columns, &mut space);
-    write(&space[..h]);
-    let fd = os::open_read(name);
-    if fd < 0 {
-        print_unread(name);
-        return;
-    }
-    print_card(columns, name, fd, h);
-    libc::close(fd);
-}
-
-// The whole program: its one argument is the card's file. Any other number of arguments is answered with the usage.
+// The whole program: its one argument is the card's file, of which more than the longest record is read. Any other number
+// of arguments is answered with the usage.
 pub fn main_with(columns: Columns, usage: &[u8]) {
-    if os::arg_count() != 2 {
-        write(usage);
+    if !shell::has_argument(usage) {
         return;
     }
-    let mut space = [0u8; NAME_ROOM];
-    let n = os::arg(1, &mut space);
-    print_named(columns, &space[..n]);
+    let h = say_heading(columns);
+    let mut space = io::buffer();
+    let card = shell::named_file(&mut space);
+    let n = card.length;
+    if card.is_read {
+        say_below(columns, &space[..n], h);
+    }
 }

@@ -1,5 +1,5 @@
-// What the programs of the bench and the test programs share: words and numbers on standard output, the file that a
-// program's argument names, lines of standard input, hexadecimal digits, and the bit pattern of a float.
+// What the programs of the bench and the test programs share: words, numbers, refusals and a card's settings on standard
+// output, the file that a program's argument names, lines of standard input, hexadecimal digits, the bit pattern of a float.
 //
 // No public function has a `requires`. No contract can say what is read or written, so the functions that only write have
 // none; a count of bytes read lies within the buffer that was lent for them.
@@ -9,6 +9,9 @@ ghost use lib.ListN.{length};
 ghost use lib.Ieee.{binary32, toBits};
 ghost use Rattle.io.specs.Counts.{Counts};
 ghost use Rattle.shell.specs.Digits.{digitOf};
+use card::Reading;
+use card::Row;
+use card::Settings;
 use leaf::Refusal;
 use leaf::choose8;
 use leaf::in_range;
@@ -87,6 +90,39 @@ pub fn refusal(why: Refusal) {
     }
 }
 
+fn row(r: Row) {
+    next(r.initial as u16);
+    next(r.last as u16);
+    next(r.delay as u16);
+    next(r.drop as u16);
+}
+
+// A card's settings as numbers, in the card's order.
+fn settings(s: Settings) {
+    number(s.vmax as u64);
+    next(s.tick);
+    next(s.bts as u16);
+    row(s.clear);
+    row(s.announcement);
+    row(s.preannouncement);
+    row(s.caution);
+    row(s.before_stop);
+    row(s.crossing);
+    row(s.limit);
+    row(s.start);
+    next(s.functions as u16);
+    next(s.x);
+    next(s.y);
+}
+
+// What a card's reader answers: the settings, or the refusal.
+pub fn reading(answer: Reading) {
+    match answer {
+        Reading::Read(s) => settings(s),
+        Reading::Refused(why) => refusal(why),
+    }
+}
+
 // ---- the bit pattern of a float
 
 // For a NaN, which has many, 7fc00000.
@@ -104,17 +140,30 @@ pub struct File {
     pub length: usize,
 }
 
-// The file that the program's one argument names, from its first byte to its end or as far as buf goes. Where there is no
-// argument, or more than one, the usage line is written, and where the file cannot be opened or read `cannot read` and
-// its name; then no file is read and the length is 0.
+// Has the program its one argument. Where it has none, or more than one, the usage line is written.
+pub fn has_argument(usage: &[u8]) -> bool {
+    let one = os::arg_count() == 2;
+    if !one {
+        io::write_all(1, usage);
+    }
+    one
+}
+
+// The file that the program's one argument names, as `named_file` has it; none where there is not one argument.
 pub fn argument_file(usage: &[u8], buf: &mut [u8]) -> File
     ensures { λ r. ⌜ Counts (r .length) (now (buf .exit)) ⌝ }
 {
-    if os::arg_count() != 2 {
-        io::write_all(1, usage);
-        return no_file();
+    if has_argument(usage) {
+        return named_file(buf);
     }
-    named_file(buf)
+    no_file()
+}
+
+// Room for the name. It ensures its length, which lending needs: a check that counts the zeros takes seconds.
+fn name_room() -> [u8; NAME_MOST]
+    ensures { λ r. ⌜ 131072 ≡ length r ⌝ }
+{
+    [0; NAME_MOST]
 }
 
 fn no_file() -> File
@@ -126,10 +175,12 @@ fn no_file() -> File
     }
 }
 
-fn named_file(buf: &mut [u8]) -> File
+// The file that the program's argument names, from its first byte to its end or as far as buf goes. Where it cannot be
+// opened or read, `cannot read` and its name are written; then no file is read and the length is 0.
+pub fn named_file(buf: &mut [u8]) -> File
     ensures { λ r. ⌜ Counts (r .length) (now (buf .exit)) ⌝ }
 {
-    let mut name = [0u8; NAME_MOST];
+    let mut name = name_room();
     let n = os::arg(1, &mut name);
     let fd = os::open_read(&name[..n]);
     let file = opened_file(fd, buf);

@@ -1,43 +1,9 @@
 // Reads the cards of a batch on standard input and writes a line for each: its settings in the card's order, or its
 // refusal. tests/compare/README.md has the format. A case that the input cuts short is left out.
-use card::Reading;
-use card::Row;
-use card::Settings;
-use shell::next;
-use shell::number;
-use shell::refusal;
 use shell::say;
 
-fn row(r: Row) {
-    next(r.initial as u16);
-    next(r.last as u16);
-    next(r.delay as u16);
-    next(r.drop as u16);
-}
-
-fn settings(s: Settings) {
-    number(s.vmax as u64);
-    next(s.tick);
-    next(s.bts as u16);
-    row(s.clear);
-    row(s.announcement);
-    row(s.preannouncement);
-    row(s.caution);
-    row(s.before_stop);
-    row(s.crossing);
-    row(s.limit);
-    row(s.start);
-    next(s.functions as u16);
-    next(s.x);
-    next(s.y);
-}
-
 fn answer(area: &[u8], highest: u8) {
-    let answer = card::read(area, highest);
-    match answer {
-        Reading::Read(s) => settings(s),
-        Reading::Refused(why) => refusal(why),
-    }
+    shell::reading(card::read(area, highest));
     say(b"\n");
 }
 
