@@ -11,8 +11,6 @@
 //              buttons hold in the first of the samples only. With a ? in the line each sample's answer is written:
 //              its number in the ride, S, lamps, cause, crossing icon, limit standing or not; or the refusal.
 // One blank parts a line's words from each other.
-mod notation;
-
 use card::Reading;
 use leaf::Refusal;
 use leaf::choose16;

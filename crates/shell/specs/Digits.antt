@@ -5,5 +5,5 @@ use Rattle.leaf.specs.Choosing.{pick}
 use Rattle.leaf.specs.Numbers.{within}
 
 -- the value of a digit, 16 for any other byte
-abbrev pub digitOf : ℕ → ℕ
+unfoldable pub digitOf : ℕ → ℕ
 digitOf b = pick (within 0x30 0x39 b) (b % 16) (pick (within 0x41 0x46 b || within 0x61 0x66 b) (b % 16 + 9) 16)

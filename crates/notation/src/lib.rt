@@ -1,5 +1,11 @@
-// The program's notation: a line of its input, byte by byte, and what a sample is answered with as its output has it. What
-// each line means is said at the head of main.rt.
+// The notation of session_cases: a line of its input, byte by byte, and what a sample is answered with as its output has it.
+// What each line means is said at the head of that program.
+//
+// There is no `requires`. What makes a line or its samples ensures that they are the definition of specs/ that it names;
+// `refusal` and `outcome` only write.
+ghost use mathlib.Core.Path.{_≡_};
+ghost use Prim.Native.Nat.{_%_};
+ghost use Rattle.notation.specs.Lines.{noSamples, longerOf, samplesNext, samplesRest, emptyLine, isTitle, isSamples, hexNext, lineNext, lineBehind};
 use leaf::Refusal;
 use leaf::choose8;
 use leaf::choose16;
@@ -31,13 +37,15 @@ pub struct Samples {
 pub struct Line {
     pub first: u8,
     pub samples: Samples,
-    word: u16,
+    pub word: u16,
     pub card: [u8; 44],
-    half: usize,
+    pub half: usize,
 }
 
 // A number with one more digit, where the digit is one of its own. Up to 59,999 it is as it stands.
-fn longer(own: bool, number: u16, digit: u8) -> u16 {
+fn longer(own: bool, number: u16, digit: u8) -> u16
+    ensures { λ r. ⌜ r ≡ longerOf own number digit ⌝ }
+{
     let next = number % 6000 * 10 + (digit % 10) as u16;
     choose16(own & (digit < 10), next, number)
 }
@@ -49,7 +57,9 @@ fn write_byte(b: u8) {
 
 impl Samples {
     // None, behind the n-th.
-    fn none(n: u16, tick: u16) -> Samples {
+    fn none(n: u16, tick: u16) -> Samples
+        ensures { λ r. ⌜ r ≡ noSamples n tick ⌝ }
+    {
         Samples {
             n: n,
             tick: tick,
@@ -63,7 +73,9 @@ impl Samples {
     }
 
     // With the line's next byte, in the word that so many blanks stand before.
-    fn next(mut self, word: u16, b: u8) -> Samples {
+    fn next(mut self, word: u16, b: u8) -> Samples
+        ensures { λ r. ⌜ r ≡ samplesNext word b self ⌝ }
+    {
         let d = digit(b);
         self.count = longer(word == 0, self.count, d);
         self.pulses = longer(word == 1, self.pulses, d);
@@ -75,7 +87,9 @@ impl Samples {
     }
 
     // Those behind the first.
-    pub fn rest(mut self) -> Samples {
+    pub fn rest(mut self) -> Samples
+        ensures { λ r. ⌜ r ≡ samplesRest self ⌝ }
+    {
         self.n = older(self.n);
         self.beacon = 0;
         self.buttons = 0;
@@ -85,7 +99,9 @@ impl Samples {
 
 impl Line {
     // A line of which nothing has come.
-    pub fn empty(card: [u8; 44], n: u16, tick: u16) -> Line {
+    pub fn empty(card: [u8; 44], n: u16, tick: u16) -> Line
+        ensures { λ r. ⌜ r ≡ emptyLine card n tick ⌝ }
+    {
         Line {
             first: 0,
             samples: Samples::none(n, tick),
@@ -95,21 +111,29 @@ impl Line {
         }
     }
 
-    fn is_title(self) -> bool {
+    fn is_title(self) -> bool
+        ensures { λ r. ⌜ r ≡ isTitle self ⌝ }
+    {
         (b'A' <= self.first) & (self.first <= b'Z')
     }
 
-    pub fn is_samples(self) -> bool {
+    pub fn is_samples(self) -> bool
+        ensures { λ r. ⌜ r ≡ isSamples self ⌝ }
+    {
         (b'0' <= self.first) & (self.first <= b'9')
     }
 
     // The number that is a line's second word.
-    pub fn number(self) -> u8 {
+    pub fn number(self) -> u8
+        ensures { λ r. ⌜ r ≡ self .samples .pulses % 256 ⌝ }
+    {
         low(self.samples.pulses)
     }
 
     // The line with its next byte, which is written where it is a title's.
-    pub fn next(mut self, b: u8) -> Line {
+    pub fn next(mut self, b: u8) -> Line
+        ensures { λ r. ⌜ r ≡ lineNext b self ⌝ }
+    {
         self.first = choose8(self.first == 0, b, self.first);
         self.word = choose16(b == b' ', older(self.word), self.word);
         if self.is_title() {
@@ -124,7 +148,9 @@ impl Line {
     }
 
     // The line with one more hex digit of its card.
-    fn with_hex(mut self, digit: u8) -> Line {
+    fn with_hex(mut self, digit: u8) -> Line
+        ensures { λ r. ⌜ r ≡ hexNext digit self ⌝ }
+    {
         let half = self.half;
         if half < 88 {
             if digit < 16 {
@@ -139,7 +165,9 @@ impl Line {
     }
 
     // The line behind it, of which nothing has come.
-    pub fn behind(self) -> Line {
+    pub fn behind(self) -> Line
+        ensures { λ r. ⌜ r ≡ lineBehind self ⌝ }
+    {
         let x = self.samples;
         let card = self.card;
         let opens = self.first == b'o';
