@@ -24,7 +24,7 @@ crossingTurned m d = withCrossing (turnedAt m (d .crossing)) d
 unfoldable pub mainSpeed : MainKind → Main → Settings → ℕ → ℕ
 mainSpeed Clear c s top = top
 mainSpeed Start c s top = rowSpeed (s .start) (c .age)
-mainSpeed ConditionalClear c s top = rowSpeed (s .clear) (c .age)
+mainSpeed ConditionalClear c s top = rowSpeed (s .«conditional_clear») (c .age)
 mainSpeed Announcement c s top = rowSpeed (s .announcement) (c .age)
 mainSpeed Preannouncement c s top = rowSpeed (s .preannouncement) (c .age)
 mainSpeed Caution c s top = rowSpeed (s .caution) (c .age)

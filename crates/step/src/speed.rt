@@ -24,7 +24,7 @@ fn main_speed(main: Main, settings: Settings, top: u32) -> u32
             row_speed(row, main.age)
         }
         MainKind::ConditionalClear => {
-            let row = settings.clear;
+            let row = settings.conditional_clear;
             row_speed(row, main.age)
         }
         MainKind::Announcement => {
