@@ -5,9 +5,10 @@ use signals::stop::Alongside;
 ghost use mathlib.Core.Path.{_≡_};
 ghost use Rattle.desk.specs.Beside.{nothingBeside, besideWithAlongside, besideWithCrossing, besideWithLimit, besideOlder};
 
+// The crossing comes first in memory, where a sample costs least (tests/cost).
 pub struct Beside {
-    pub alongside: Alongside,
     pub crossing: Crossing,
+    pub alongside: Alongside,
     pub limit: Limit,
 }
 
