@@ -1,0 +1,44 @@
+"""ask.py PROGRAM [ARGUMENT..]: runs ride, trace or show_card for a person, with a status; a refused ride is said in words too."""
+
+import sys
+
+import desk
+import plain
+import programs
+
+USAGES = {
+    "ride": """usage: ./ride CARD < RECORDING
+
+Prints the ride: under a heading a line a sample, with its number, the supervised speed in hundredths of km/h, the lamps and the
+cause of the brake. Where the ride is refused the last line is `refused` and the number, and standard error has it in words.""",
+    "trace": """usage: ./trace CARD < RECORDING
+
+Prints the ride as ./ride does, with two more columns: the crossing icon (0 none, 1 protected, 2 unprotected) and whether the limit
+stands (0, 1).""",
+    "show_card": """usage: ./show_card FILE
+
+Lists the settings of the card in FILE, or says why it is refused. bench/unhex makes bytes of a hex dump.""",
+}
+
+
+def say_refusal(line, lines):
+    """The refusal of a ride, in words; of the lines before it one is the heading."""
+    number = int(line.split()[1])
+    plain.complain(f"ride refused: {desk.refusal_words(number, lines - 2)}")
+
+
+def main(name, arguments):
+    is_ride = name != "show_card"
+    if len(arguments) != 1:
+        raise plain.Usage
+    if is_ride:
+        plain.check_input("recording", USAGES[name])
+    heard = programs.pass_on(name, arguments)
+    if is_ride and heard.refusal:
+        say_refusal(heard.refusal, heard.lines)
+    return heard.status()
+
+
+if __name__ == "__main__":
+    program = sys.argv[1]
+    plain.run(program, USAGES[program], lambda arguments: main(program, arguments), sys.argv[2:])
