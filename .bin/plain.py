@@ -30,7 +30,7 @@ def reason(error):
     if isinstance(error, IsADirectoryError):
         return "it is a folder"
     if isinstance(error, PermissionError):
-        return "it may not be read"
+        return "no permission"
     if error.errno == errno.EBADF:
         return "it is closed"
     return error.strerror[:1].lower() + error.strerror[1:]
