@@ -21,22 +21,23 @@ Lists the settings of the card in FILE, or says why it is refused. bench/unhex m
 }
 
 
-def say_refusal(line, lines):
-    """The refusal of a ride, in words; of the lines before it one is the heading."""
-    number = int(line.split()[1])
-    plain.complain(f"ride refused: {desk.refusal_words(number, lines - 2)}")
+def ride(name, card, given=None):
+    """Prints the ride of a recording, standard input where no other is given; a refusal is said in words too. Gives the status."""
+    heard = programs.pass_on(name, [card], given)
+    if heard.refusal:
+        number = int(heard.refusal.split()[1])
+        answered = heard.lines - 2  # the heading and the refusal
+        plain.complain(f"ride refused: {desk.refusal_words(number, answered)} (refusal {number})")
+    return heard.status()
 
 
 def main(name, arguments):
-    is_ride = name != "show_card"
     if len(arguments) != 1:
         raise plain.Usage
-    if is_ride:
-        plain.check_input("recording", USAGES[name])
-    heard = programs.pass_on(name, arguments)
-    if is_ride and heard.refusal:
-        say_refusal(heard.refusal, heard.lines)
-    return heard.status()
+    if name == "show_card":
+        return programs.pass_on(name, arguments).status()
+    plain.check_input("recording", USAGES[name])
+    return ride(name, arguments[0])
 
 
 if __name__ == "__main__":

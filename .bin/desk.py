@@ -3,6 +3,8 @@ a recording and the lines of `trace`. Nothing here decides what the desk answers
 
 import pathlib
 import sys
+import tempfile
+from typing import NamedTuple
 
 import plain
 import programs
@@ -50,7 +52,104 @@ def refusal_words(number, answered):
     """A refusal of a ride of which so many samples were answered."""
     words = REFUSALS.get(number, "")
     if number in OF_CARD:
-        return f"{words} (refusal {number} of the card; show_card says more)"
-    if number in OF_SAMPLE:
-        return f"sample {answered + 1}: {words} (refusal {number})"
-    return f"{words} (refusal {number})"
+        return f"{words} (the card; show_card says more)"
+    return f"sample {answered + 1}: {words}" if number in OF_SAMPLE else words
+
+
+def names(mask):
+    """The buttons, or their lamps, of a mask."""
+    return [name for bit, name in enumerate(BUTTONS) if mask >> bit & 1]
+
+
+# ---- what a ride is made of
+
+HEAD = 6
+MOST = HEAD + 6 * 10_000
+
+
+class Card(NamedTuple):
+    """What is said of a card that was read; only the desk decides whether it is."""
+    version: int
+    vmax: int
+    tick: int
+    functions: int
+
+    @staticmethod
+    def of(area):
+        version = area[2]
+        return Card(version, area[3], int.from_bytes(area[4:6], "big"), area[39] if version > 1 else 0)
+
+    def speed(self, pulses):
+        """In km/h."""
+        return pulses * self.tick * 9 / 2500
+
+    def travel(self, pulses):
+        """Of one sample, in metres."""
+        return pulses * self.tick / 10_000
+
+
+class Sample(NamedTuple):
+    pulses: int
+    beacon: int
+    buttons: int
+    mode: int
+
+    @staticmethod
+    def of(six):
+        return Sample(int.from_bytes(six[:2], "big"), six[2], int.from_bytes(six[3:5], "big"), six[5])
+
+
+class Answer(NamedTuple):
+    """A line of `trace` behind its number. The limit is S, in hundredths of km/h."""
+    limit: int
+    lamps: int
+    cause: int
+    icon: int
+    standing: int
+
+
+class Ride:
+    """A recording on a card, and what the desk answers: an answer for each accepted sample, then the number of the refusal or None.
+    A card and samples are there as far as there are answers."""
+
+    def __init__(self, card, recording):
+        with tempfile.NamedTemporaryFile() as area:
+            area.write(card)
+            area.flush()
+            _, *lines = programs.answer("trace", [area.name], recording)
+        self.refusal = int(lines.pop().split()[1]) if lines and lines[-1].startswith("refused ") else None
+        self.answers = [Answer(*map(int, line.split()[1:])) for line in lines]
+        self.card = Card.of(card) if self.refusal is None or self.refusal not in OF_CARD else None
+        self.kind = recording[HEAD - 1] if len(recording) >= HEAD else None
+        self.samples = [Sample.of(recording[at:at + 6]) for at in range(HEAD, len(recording) - 5, 6)]
+
+    def steps(self):
+        """Each accepted sample with its answer."""
+        return list(zip(self.samples, self.answers))
+
+    def reads(self, i):
+        """The beacon that accepted sample i (from 0) reads, 0 if none: its code differs from that of the sample before."""
+        now, before = self.samples[i], self.samples[i - 1].beacon if i else 0
+        heard = now.mode == 1 or bool(self.card.functions & 8) and now.beacon in (4, 9, 10, 11)
+        return now.beacon if now.beacon != before and heard else 0
+
+    def why(self):
+        """The refusal in words."""
+        return refusal_words(self.refusal, len(self.answers))
+
+
+def given_ride(card, usage):
+    """The ride of the recording on standard input, on the card in a file."""
+    area = plain.file_bytes(card, MOST)
+    return Ride(area, plain.standard_input("recording", usage, MOST + 1))
+
+
+def clock(samples):
+    """The time after so many samples."""
+    return f"{samples // 600}:{samples % 600 / 10:04.1f}"
+
+
+def duration(samples):
+    """How long so many samples last."""
+    minutes, seconds = samples // 600, f"{samples % 600 / 10:.1f} s"
+    return f"{minutes} min {seconds}" if minutes else seconds

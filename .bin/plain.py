@@ -65,11 +65,14 @@ def hold_descriptors():
             os.open(os.devnull, flags)
 
 
-def standard_input(what, usage):
-    """The bytes on standard input, of which there must be a file or a pipe."""
+def standard_input(what, usage, most=-1):
+    """The bytes on standard input, or the first so many of them. There must be a file or a pipe."""
     check_input(what, usage)
-    with os.fdopen(0, "rb", closefd=False) as source:
-        return source.read()
+    try:
+        with os.fdopen(0, "rb", closefd=False) as source:
+            return source.read(most)
+    except OSError as error:
+        raise Ends(f"cannot read {what} on standard input: {reason(error)}") from None
 
 
 def check_input(what, usage):
