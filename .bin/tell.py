@@ -101,7 +101,8 @@ def rows(ride):
 def about(ride):
     """What the page is about, in two lines."""
     card, count = ride.card, len(ride.answers)
-    yield f"Card: version {card.version}, vmax {card.vmax} km/h, {card.tick / 10:.1f} mm a pulse. Train type {ride.kind}, T {desk.TYPES[ride.kind]} km/h."
+    train = f"Train type {ride.kind}, T {desk.TYPES[ride.kind]} km/h."
+    yield f"Card: version {card.version}, vmax {card.vmax} km/h, {card.tick / 10:.1f} mm a pulse. {train}"
     metres = sum(card.travel(sample.pulses) for sample, _ in ride.steps())
     yield f"{count} samples, {desk.duration(count)}, {metres:.1f} m. Speeds in km/h; the limit is the supervised speed."
 
