@@ -25,9 +25,7 @@ def ride(name, card, given=None):
     """Prints the ride of a recording, standard input where no other is given; a refusal is said in words too. Gives the status."""
     heard = programs.pass_on(name, [card], given)
     if heard.refusal:
-        number = int(heard.refusal.split()[1])
-        answered = heard.lines - 2  # the heading and the refusal
-        plain.complain(f"ride refused: {desk.refusal_words(number, answered)} (refusal {number})")
+        desk.say_refusal(int(heard.refusal.split()[1]), heard.lines - 2)  # the heading and the refusal are lines too
     return heard.status()
 
 

@@ -51,9 +51,13 @@ OF_SAMPLE = range(8, 12)
 def refusal_words(number, answered):
     """A refusal of a ride of which so many samples were answered."""
     words = REFUSALS.get(number, "")
-    if number in OF_CARD:
-        return f"{words} (the card; show_card says more)"
     return f"sample {answered + 1}: {words}" if number in OF_SAMPLE else words
+
+
+def say_refusal(number, answered):
+    """Says the refusal of a ride on standard error, in words."""
+    more = "; show_card says more" if number in OF_CARD else ""
+    plain.complain(f"ride refused: {refusal_words(number, answered)} (refusal {number}{more})")
 
 
 def names(mask):

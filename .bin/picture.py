@@ -524,7 +524,7 @@ def main(arguments):
     ride = desk.given_ride(card, USAGE)
     plain.say(Picture(ride, title, over_distance).svg() if ride.answers else without_answers(ride, title))
     if ride.refusal is not None:
-        plain.complain(f"ride refused: {ride.why()} (refusal {ride.refusal})")
+        desk.say_refusal(ride.refusal, len(ride.answers))
     return 0 if ride.refusal is None else 1
 
 

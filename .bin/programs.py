@@ -66,7 +66,8 @@ def pass_on(name, arguments, stdin=None, beside=None):
     """Runs a program and passes each of its lines on as soon as it is whole, with what is to stand beside it. Answers what was
     heard."""
     heard = Heard()
-    with subprocess.Popen(command(name) + arguments, stdin=stdin, stdout=subprocess.PIPE, stderr=subprocess.PIPE) as program:
+    with subprocess.Popen(command(name) + arguments, stdin=stdin, stdout=subprocess.PIPE, stderr=subprocess.PIPE,
+                          close_fds=False) as program:  # an argument may be /dev/fd/63
         with selectors.DefaultSelector() as sources:
             sources.register(program.stdout, selectors.EVENT_READ, bytearray())
             sources.register(program.stderr, selectors.EVENT_READ, bytearray())
@@ -105,7 +106,8 @@ def lines_of(data):
 
 def answer(name, arguments, given):
     """The lines of a program that reads these bytes."""
-    ran = subprocess.run(command(name) + arguments, input=given, stdout=subprocess.PIPE, stderr=subprocess.PIPE, check=False)
+    ran = subprocess.run(command(name) + arguments, input=given, stdout=subprocess.PIPE, stderr=subprocess.PIPE, close_fds=False,
+                         check=False)
     heard = Heard()
     for line in lines_of(ran.stderr):
         heard.complaint(line)
