@@ -8,18 +8,11 @@ use leaf::Refusal;
 use leaf::byte_at;
 use leaf::long_at;
 use leaf::word_at;
-use sample::step::Answer;
 use session::Opened;
 use session::Outcome;
+use session::Sample;
 use session::Session;
-
-// The six bytes of a sample.
-struct Record {
-    pulses: u16,
-    beacon: u8,
-    buttons: u16,
-    mode: u8,
-}
+use step::Answer;
 
 // Two sums: of speeds, and of all else.
 struct Sums {
@@ -32,10 +25,10 @@ fn word(high: u8, low: u8) -> u16 {
 }
 
 // The sample of this place; one that is refused where there is none.
-fn record_at(s: &[u8], place: u16) -> Record {
+fn sample_at(s: &[u8], place: u16) -> Sample {
     let at = 52 + 6 * (place as usize);
     if s.len() < 6 {
-        return Record {
+        return Sample {
             pulses: 0,
             beacon: 0,
             buttons: 0,
@@ -43,14 +36,14 @@ fn record_at(s: &[u8], place: u16) -> Record {
         };
     }
     if s.len() - 6 < at {
-        return Record {
+        return Sample {
             pulses: 0,
             beacon: 0,
             buttons: 0,
             mode: 0,
         };
     }
-    Record {
+    Sample {
         pulses: word(s[at], s[at + 1]),
         beacon: s[at + 2],
         buttons: word(s[at + 3], s[at + 4]),
@@ -100,8 +93,8 @@ fn run(s: &[u8], opened: Session, samples: u16, rounds: u16) -> Sums {
     let mut session = opened;
     let mut sums = Sums { speeds: 0, rest: 0 };
     while 0 < left {
-        let x = record_at(s, place);
-        let sampled = session.sample(x.pulses, x.beacon, x.buttons, x.mode);
+        let x = sample_at(s, place);
+        let sampled = session.sample(x);
         let outcome = sampled.outcome;
         sums = sums.with(outcome);
         session = sampled.session;

@@ -17,17 +17,18 @@ use Rattle.card.proofs.Accepted.{in-range-when}
 use Rattle.signals.specs.Stop.{firstMet, remindedOf, reminderOlder}
 use Rattle.desk.specs.declared.state.Desk.{Desk}
 use Rattle.desk.specs.Clock.{sameMode, deskOlder, begun}
-use Rattle.sample.specs.declared.step.Stepped.{Stepped}
-use Rattle.sample.specs.Speed.{crossingTurned}
-use Rattle.sample.specs.Brake.{braked}
-use Rattle.sample.specs.Sample.{functionOn, movedOf, judgedOf, stepOf}
+use Rattle.step.specs.declared.Stepped.{Stepped}
+use Rattle.step.specs.Speed.{crossingTurned}
+use Rattle.step.specs.Brake.{braked}
+use Rattle.step.specs.Step.{functionOn, movedOf, judgedOf, stepOf}
+use Rattle.session.specs.declared.Sample.{Sample}
 use Rattle.session.specs.declared.Session.{Session}
 use Rattle.session.specs.declared.Sampled.{Sampled}
 use Rattle.session.specs.declared.Outcome.{Outcome}
 use Rattle.session.specs.declared.Outcome.the-variants.{Answered, Refused}
 use Rattle.session.specs.Types.{typeSpeed}
 use Rattle.session.specs.Session.{settingsInside, insideOf, refusedBy, carried, sampledAs, ranOf, sampleOf, inBts}
-use Rattle.demands.specs.Runs.{Sample, after, accepted, outcomes}
+use Rattle.demands.specs.Runs.{after, accepted, outcomes}
 use Rattle.demands.specs.Speaks.{atBeacon, speaks0, speaks1, speaks2, speaks3, bitDiffers, reminderDiffers, differingSpeaks, silentFor}
 use Rattle.demands.specs.Kept.{calm, stays-calm, Kept, begin, presses, beacon}
 use Rattle.demands.specs.Apart.{later, or-false, reminder-same, RemindsAlike, step-alike}
@@ -36,10 +37,10 @@ use Rattle.demands.specs.Apart.{later, or-false, reminder-same, RemindsA
 
 -- the refusal that is due, 0 where there is none
 abbrev pub refusalOf : Session → Sample → ℕ
-refusalOf s x = refusedBy s (x .pulses) (x .beacon) (x .buttons) (x .mode)
+refusalOf s x = refusedBy s x
 
 abbrev pub run : Session → Sample → Sampled
-run s x = ranOf (carried s (x .pulses) (x .beacon) (x .buttons) (x .mode)) s
+run s x = ranOf (carried s x) s
 
 pub accepted-runs : (s : Session) (x : Sample) → accepted s x ≡ true → after s x ≡ run s x
 unfolding sampleOf
@@ -120,7 +121,7 @@ module _ (s : Settings) (train f v w : ℕ) (met : SettingsMet 2 s) (also : Sett
     ran-alike : run (beside d) x ≡ record { session = beside (run (at d) x .session .desk); outcome = run (at d) x .outcome }
     unfolding ranOf speaks1
     ran-alike =
-        rw (step-alike s f v w (typeSpeed train * 100) (carried (at d) (x .pulses) (x .beacon) (x .buttons) (x .mode)) d reminds-alike (kept .mode) (unspoken .0) (unspoken .1) (unspoken .3))
+        rw (step-alike s f v w (typeSpeed train * 100) (carried (at d) x) d reminds-alike (kept .mode) (unspoken .0) (unspoken .1) (unspoken .3))
 
     calm-after : Calm (run (at d) x .session .desk)
     unfolding ranOf stepOf judgedOf movedOf crossingTurned braked

@@ -21,10 +21,10 @@ use Rattle.desk.specs.State.{withCode, takenOver, modeChanged}
 use Rattle.desk.specs.Clock.{sameMode, deskOlder, reminded, mainCounts, advanced, begun}
 use Rattle.buttons.specs.Buttons.{pressesOf}
 use Rattle.beacons.specs.Beacons.{isBeacon, isSide, readsOf, zoneMet, reading3, reading7, readingOf, readIf, beaconTaken}
-use Rattle.sample.specs.declared.step.Sample.{Sample}
-use Rattle.sample.specs.Speed.{mainSpeed, supervisedOf, crossingTurned}
-use Rattle.sample.specs.Brake.{braked}
-use Rattle.sample.specs.Sample.{functionOn, movedOf, answerOf, judgedOf, stepOf}
+use Rattle.step.specs.declared.Input.{Input}
+use Rattle.step.specs.Speed.{mainSpeed, supervisedOf, crossingTurned}
+use Rattle.step.specs.Brake.{braked}
+use Rattle.step.specs.Step.{functionOn, movedOf, answerOf, judgedOf, stepOf}
 use Rattle.demands.specs.Speaks.{same}
 use Rattle.demands.specs.Kept.{calm, stays-calm, Kept, begin, presses, beacon}
 
@@ -173,18 +173,18 @@ speed-alike : (s : Settings) (f v w top : ℕ) (d : Desk) → supervisedOf (late
 unfolding supervisedOf
 speed-alike s f v w top d = rw (main-alike s f v w (d .main .kind) (d .main) top)
 
-judged-alike : (s : Settings) (f v w top : ℕ) (x : Sample) (cause : ℕ) (d : Desk) → judgedOf (later s f v w) top x cause d ≡ judgedOf s top x cause d
+judged-alike : (s : Settings) (f v w top : ℕ) (x : Input) (cause : ℕ) (d : Desk) → judgedOf (later s f v w) top x cause d ≡ judgedOf s top x cause d
 unfolding judgedOf answerOf
 judged-alike s f v w top x cause d = rw (speed-alike s f v w top (crossingTurned (x .m) d))
 
 -- ---- the sample of the desk
 
 -- the desk where the beacon is looked at
-abbrev read : Settings → ℕ → Sample → Desk → Desk
+abbrev read : Settings → ℕ → Input → Desk → Desk
 read s top x d = pressesOf (x .buttons) (x .m) (s .limit) top (begun (x .bts) (x .m) (functionOn s 4) (s .x) (s .y) d .desk)
 
 module _
-    (s : Settings) (f v w top : ℕ) (x : Sample) (d : Desk)
+    (s : Settings) (f v w top : ℕ) (x : Input) (d : Desk)
     (h2 : RemindsAlike (x .bts) (x .m) (functionOn s 4) (bitOf f 4) (s .x) (s .y) v w d)
     (mode : read s top x d .bts ≡ x .bts)
     (h0 : Apart (functionOn s 1) (bitOf f 1) (eqb (x .beacon) 3 || eqb (x .beacon) 4))

@@ -18,11 +18,12 @@ use Rattle.card.specs.Reading.{settingsFrom, settingsOf, readCard}
 use Rattle.card.specs.Plain.{SettingsMet}
 use Rattle.card.proofs.Accepted.{read-checks, accepted-only, settings-met, in-range-when}
 use Rattle.card.proofs.Same.{Same, same-word, same-row, same-part}
+use Rattle.session.specs.declared.Sample.{Sample}
 use Rattle.session.specs.declared.Session.{Session}
 use Rattle.session.specs.declared.Outcome.{Outcome}
 use Rattle.session.specs.Types.{typeAllowed}
 use Rattle.session.specs.Session.{freshSession, openSession}
-use Rattle.demands.specs.Runs.{Sample, outcomes, runFrom, firstOf}
+use Rattle.demands.specs.Runs.{outcomes, runFrom, firstOf}
 use Rattle.demands.specs.Speaks.{untilSpeaks}
 use Rattle.demands.specs.Apart.{later}
 use Rattle.demands.specs.Alike.{alike}

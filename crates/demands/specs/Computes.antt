@@ -14,9 +14,9 @@ use Rattle.desk.specs.Clock.{deskOlder, reminded, mainCounts, sideCounts, mainM
 use Rattle.desk.specs.State.{takenOver, crossingSet, limitNow, modeChanged}
 use Rattle.buttons.specs.Buttons.{chosen, answeredBy, mainAnswered, sideAnswered, pressed, freeFor, optionUsed, limitRemoved, reminderAnswered, overrideArmed, stopIncreased, limitStepped, crossingPressed, limitPressed, overridePressed, increasePressed, hidePressed, windowPresses, allPresses, pressesOf}
 use Rattle.beacons.specs.Beacons.{readsOf, mainOpened, sideOpened, reading1, readingRow, optionOffered, reading3, reading4, zoneMet, reading7, stopped, reading8, reading9, readingLimit, readingOf, readIf, beaconTaken}
-use Rattle.sample.specs.Brake.{lowest, standingCause, braked, windowLamps, controlLamps, lampsOf}
-use Rattle.sample.specs.Sample.{movedOf, answerOf, judgedOf, stepOf}
-use Rattle.sample.specs.Speed.{crossingTurned, mainSpeed, leastIf, supervisedOf}
+use Rattle.step.specs.Brake.{lowest, standingCause, braked, windowLamps, controlLamps, lampsOf}
+use Rattle.step.specs.Step.{movedOf, answerOf, judgedOf, stepOf}
+use Rattle.step.specs.Speed.{crossingTurned, mainSpeed, leastIf, supervisedOf}
 use Rattle.session.specs.Ranges.{deskInside}
 use Rattle.session.specs.Session.{openSession, settingsInside, insideOf, refusedBy, ranOf, sampleOf}
 use Rattle.session.specs.Types.{typeSpeed, typeAllowed}

@@ -27,6 +27,7 @@ use Rattle.card.proofs.Buffer.{refused-leaves}
 use Rattle.tone.specs.Facts as sheet
 use Rattle.tone.specs.Tones.{rowsOf, sheetOf, readSheet, readFrom, classifyOf}
 use Rattle.tone.proofs.FirstFault.{accepts, refused-first, never-bare, classifies, classifier-first}
+use Rattle.session.specs.declared.Sample.{Sample}
 use Rattle.session.specs.declared.Session.{Session}
 use Rattle.session.specs.declared.Outcome.the-variants.{Refused}
 use Rattle.session.specs.Types.{typeAllowed}
@@ -96,14 +97,14 @@ open-refused-at = open-place
 
 -- ---- a session and a sample
 
-pub sample-answered : (s : Session) (pulses beacon buttons mode : ℕ) → Fine (sampleChecks s pulses beacon buttons mode)
-    → sampleOf s pulses beacon buttons mode ≡ ranOf (carried s pulses beacon buttons mode) s
+pub sample-answered : (s : Session) (x : Sample) → Fine (sampleChecks s x)
+    → sampleOf s x ≡ ranOf (carried s x) s
 sample-answered = sample-given
 
 -- ".. and leaves .. the handed-in session unchanged"
-pub sample-refused : (s : Session) (pulses beacon buttons mode : ℕ) (why : Refusal) → sampleOf s pulses beacon buttons mode .outcome ≡ Refused why
-    → (why ≡ Number (refusedBy s pulses beacon buttons mode)) × FirstFault (refusedBy s pulses beacon buttons mode) (sampleChecks s pulses beacon buttons mode)
-    × (sampleOf s pulses beacon buttons mode .session ≡ s)
+pub sample-refused : (s : Session) (x : Sample) (why : Refusal) → sampleOf s x .outcome ≡ Refused why
+    → (why ≡ Number (refusedBy s x)) × FirstFault (refusedBy s x) (sampleChecks s x)
+    × (sampleOf s x .session ≡ s)
 sample-refused = sample-number
 
 -- ---- a recording

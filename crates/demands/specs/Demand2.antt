@@ -16,13 +16,14 @@ use Rattle.card.specs.Reading.{settingsOf, readCard}
 use Rattle.card.specs.Writing.{writeCard, written, leaves}
 use Rattle.card.proofs.Accepted.{accepted-when, accepted-only}
 use Rattle.card.proofs.RoundTrip.{round-trip}
-use Rattle.sample.specs.Sample.{stepOf}
+use Rattle.step.specs.Step.{stepOf}
+use Rattle.session.specs.declared.Sample.{Sample}
 use Rattle.session.specs.declared.Session.{Session}
 use Rattle.session.specs.declared.Outcome.the-variants.{Answered, Refused}
 use Rattle.session.specs.Types.{typeSpeed}
 use Rattle.session.specs.Session.{freshSession, openSession, insideOf, carried, ranOf}
 use Rattle.laws.specs.Inside as made
-use Rattle.demands.specs.Runs.{Sample, after, accepted}
+use Rattle.demands.specs.Runs.{after, accepted}
 use Rattle.demands.specs.Refused.{open-inside}
 use Rattle.demands.specs.Alike.{accepted-runs, refused-stays, refusalOf}
 
@@ -38,7 +39,7 @@ always-inside = made.always-inside
 -- "The session is handed in and handed back with each sample's answer.": each accepted sample's answer, and the desk after it, are the
 -- definition's; settings and train type stay.
 pub answered : (s : Session) (x : Sample) → accepted s x ≡ true
-    → after s x ≡ (let e = stepOf (s .settings) (typeSpeed (s .train) * 100) (carried s (x .pulses) (x .beacon) (x .buttons) (x .mode)) (s .desk) in
+    → after s x ≡ (let e = stepOf (s .settings) (typeSpeed (s .train) * 100) (carried s x) (s .desk) in
     record { session = record { settings = s .settings; train = s .train; desk = e .desk }; outcome = Answered (e .answer) })
 unfolding ranOf
 answered s x = accepted-runs s x

@@ -20,7 +20,8 @@ use Rattle.card.proofs.Versions.{knows-1-refuses-2, same-card}
 use Rattle.printed.specs.declared.Columns.{Columns}
 use Rattle.printed.specs.Printed.{printedRide}
 use Rattle.printed.proofs.Silence.{print-silence}
-use Rattle.demands.specs.Runs.{Sample, rideOf, firstOf}
+use Rattle.session.specs.declared.Sample.{Sample}
+use Rattle.demands.specs.Runs.{rideOf, firstOf}
 use Rattle.demands.specs.Speaks.{untilSpeaks}
 use Rattle.demands.specs.Apart.{later}
 use Rattle.demands.specs.Cards.{its-settings, its-range, its-length, common, rides-alike}

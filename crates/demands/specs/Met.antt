@@ -12,7 +12,8 @@ use Rattle.leaf.specs.Answers.{given}
 use Rattle.card.specs.Card.{speaks}
 use Rattle.card.specs.Reading.{settingsOf, readCard}
 use Rattle.card.proofs.Same.{Same}
-use Rattle.demands.specs.Runs.{Sample, rideOf, firstOf}
+use Rattle.session.specs.declared.Sample.{Sample}
+use Rattle.demands.specs.Runs.{rideOf, firstOf}
 use Rattle.demands.specs.Speaks.{untilSpeaks}
 use Rattle.demands.specs.Rides.{settings-R, settings-P, card-R, card-P, card-P2}
 use Rattle.demands.specs.Computes.{card}

@@ -8,10 +8,11 @@ use mathlib.Core.Path.{_≡_, refl, ap}
 use lib.ListN.{length}
 use Rattle.leaf.specs.Answers.{given}
 use Rattle.card.specs.Reading.{settingsOf}
-use Rattle.sample.specs.declared.step.Answer.{Answer}
+use Rattle.step.specs.declared.Answer.{Answer}
 use Rattle.session.specs.declared.Outcome.{Outcome}
 use Rattle.session.specs.declared.Outcome.the-variants.{Answered, Refused}
-use Rattle.demands.specs.Runs.{Sample, rideOf}
+use Rattle.session.specs.declared.Sample.{Sample}
+use Rattle.demands.specs.Runs.{rideOf}
 use Rattle.demands.specs.Speaks.{untilSpeaks}
 use Rattle.demands.specs.Rides.{conv, bts, times, answer, shows, repeated, card-R}
 use Rattle.demands.specs.Computes.{definitions}

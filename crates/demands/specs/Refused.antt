@@ -16,6 +16,7 @@ use Rattle.card.specs.Ranges.{checksOf, faultOf, checkSettings, inRange}
 use Rattle.card.proofs.InRange.{fault-met}
 use Rattle.card.proofs.Accepted.{in-range-when}
 use Rattle.card.proofs.Places.{check-place}
+use Rattle.session.specs.declared.Sample.{Sample}
 use Rattle.session.specs.declared.Session.{Session}
 use Rattle.session.specs.declared.Sampled.{Sampled}
 use Rattle.session.specs.declared.Outcome.{Outcome}
@@ -30,10 +31,10 @@ unfolding insideOf settingsInside deskInside
 inside-fresh s train met allowed = rw (in-range-when 2 s met, allowed)
 
 -- the number by which a sample is refused is that of the first check that fails
-faulty : (s : Session) (pulses beacon buttons mode : ℕ) → (refusedBy s pulses beacon buttons mode ≡ 0 → ⊥)
-    → FirstFault (refusedBy s pulses beacon buttons mode) (sampleChecks s pulses beacon buttons mode)
+faulty : (s : Session) (x : Sample) → (refusedBy s x ≡ 0 → ⊥)
+    → FirstFault (refusedBy s x) (sampleChecks s x)
 unfolding refusedBy
-faulty s pulses beacon buttons mode z = first-fault (sampleChecks s pulses beacon buttons mode) _ tt refl z
+faulty s x z = first-fault (sampleChecks s x) _ tt refl z
 
 -- ---- opening
 
@@ -91,24 +92,24 @@ module _ (s : Settings) (train : ℕ) where
 
 -- ---- a sample
 
-module _ (s : Session) (pulses beacon buttons mode : ℕ) where
-  pub sample-given : Fine (sampleChecks s pulses beacon buttons mode) → sampleOf s pulses beacon buttons mode ≡ ranOf (carried s pulses beacon buttons mode) s
+module _ (s : Session) (x : Sample) where
+  pub sample-given : Fine (sampleChecks s x) → sampleOf s x ≡ ranOf (carried s x) s
   unfolding sampleOf refusedBy
-  sample-given fine = rw (fine-none (sampleChecks s pulses beacon buttons mode) fine)
+  sample-given fine = rw (fine-none (sampleChecks s x) fine)
 
-  pub sample-number : (why : Refusal) → sampleOf s pulses beacon buttons mode .outcome ≡ outcome.Refused why
-      → (why ≡ Number (refusedBy s pulses beacon buttons mode)) × FirstFault (refusedBy s pulses beacon buttons mode) (sampleChecks s pulses beacon buttons mode)
-      × (sampleOf s pulses beacon buttons mode .session ≡ s)
+  pub sample-number : (why : Refusal) → sampleOf s x .outcome ≡ outcome.Refused why
+      → (why ≡ Number (refusedBy s x)) × FirstFault (refusedBy s x) (sampleChecks s x)
+      × (sampleOf s x .session ≡ s)
   unfolding sampleOf ranOf
   sample-number why h = cases (eqb n 0) refl h
     where
       n : ℕ
-      n = refusedBy s pulses beacon buttons mode
+      n = refusedBy s x
 
       refusal : Sampled
       refusal = record { session = s; outcome = outcome.Refused (Number n) }
 
-      cases : (t : Bool) → eqb n 0 ≡ t → pick t (ranOf (carried s pulses beacon buttons mode) s) refusal .outcome ≡ outcome.Refused why
-          → (why ≡ Number n) × FirstFault n (sampleChecks s pulses beacon buttons mode) × (pick t (ranOf (carried s pulses beacon buttons mode) s) refusal .session ≡ s)
+      cases : (t : Bool) → eqb n 0 ≡ t → pick t (ranOf (carried s x) s) refusal .outcome ≡ outcome.Refused why
+          → (why ≡ Number n) × FirstFault n (sampleChecks s x) × (pick t (ranOf (carried s x) s) refusal .session ≡ s)
       cases true e h = absurd (let z : _≡_ {A = ℕ} 0 1 = cc in omega arith)
-      cases false e h = (cc, faulty s pulses beacon buttons mode (eqb-false n 0 e), refl)
+      cases false e h = (cc, faulty s x (eqb-false n 0 e), refl)

@@ -7,11 +7,12 @@ use Rattle.leaf.specs.declared.Refusal.the-variants.{Number}
 use Rattle.card.specs.declared.Row.{Row}
 use Rattle.card.specs.declared.Settings.{Settings}
 use Rattle.card.proofs.Examples.{cardA}
+use Rattle.session.specs.declared.Sample.{Sample}
 use Rattle.session.specs.declared.Session.{Session}
 use Rattle.session.specs.declared.Outcome.{Outcome}
 use Rattle.session.specs.declared.Outcome.the-variants as outcome
 use Rattle.laws.specs.Inside as made
-use Rattle.demands.specs.Runs.{Sample, after}
+use Rattle.demands.specs.Runs.{after}
 
 -- ---- samples
 

@@ -8,23 +8,19 @@ use lib.ListN.{take}
 use Rattle.leaf.specs.Answers.{Answer, given, refused, refusedAt}
 use Rattle.card.specs.declared.Settings.{Settings}
 use Rattle.card.specs.Reading.{readCard}
+use Rattle.session.specs.declared.Sample.{Sample}
 use Rattle.session.specs.declared.Session.{Session}
 use Rattle.session.specs.declared.Outcome.{Outcome}
 use Rattle.session.specs.declared.Sampled.{Sampled}
 use Rattle.session.specs.Session.{openSession, refusedBy, sampleOf}
-use Rattle.laws.specs.Inside.{Given}
-
--- "Every 100 ms (house): pulses (u16), beacon 0..11, buttons newly pressed (bits 0..10), mode 1 CONV or 2 BTS."
-abbrev pub Sample : Type 0
-Sample = Given
 
 -- the session after one sample, beside its answer or refusal
 abbrev pub after : Session → Sample → Sampled
-after s x = sampleOf s (x .pulses) (x .beacon) (x .buttons) (x .mode)
+after s x = sampleOf s x
 
 -- no refusal is due
 abbrev pub accepted : Session → Sample → Bool
-accepted s x = eqb (refusedBy s (x .pulses) (x .beacon) (x .buttons) (x .mode)) 0
+accepted s x = eqb (refusedBy s x) 0
 
 -- what a list of samples is answered with, one after the other; a refused sample leaves the session as it was
 unfoldable pub outcomes : Session → List Sample → List Outcome

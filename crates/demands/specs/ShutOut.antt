@@ -16,8 +16,9 @@ use Rattle.card.proofs.Places.{read-place, write-place}
 use Rattle.tone.specs.Facts as sheet
 use Rattle.tone.specs.Tones.{readSheet}
 use Rattle.tone.proofs.FirstFault.{refused-first}
+use Rattle.session.specs.declared.Sample.{Sample}
 use Rattle.session.specs.declared.Session.{Session}
-use Rattle.sample.specs.declared.step.Answer.{Answer}
+use Rattle.step.specs.declared.Answer.{Answer}
 use Rattle.text.specs.Decimal.{line}
 use Rattle.rides.specs.declared.ride.Ride.{Ride}
 use Rattle.rides.specs.declared.ride.Shown.the-variants.{Answered}
@@ -29,21 +30,21 @@ use Rattle.laws.specs.NoToy.{Logic, Equals, isRefused, speedTold, not-refusing}
 use Rattle.laws.specs.NoToy as toy
 
 -- "a logic that refuses everything"
-pub not-all-refused : (f : Logic) → Equals f → ((s : Session) (pulses beacon buttons mode : ℕ) → isRefused (f s pulses beacon buttons mode .outcome) ≡ true) → ⊥
+pub not-all-refused : (f : Logic) → Equals f → ((s : Session) (x : Sample) → isRefused (f s x .outcome) ≡ true) → ⊥
 not-all-refused = not-refusing
 
 -- "one that answers one speed for ever"
 pub not-one-speed : (f : Logic) → Equals f → (speed : ℕ)
-    → ((s : Session) (pulses beacon buttons mode : ℕ) → speedTold (f s pulses beacon buttons mode .outcome) ≡ speed) → ⊥
+    → ((s : Session) (x : Sample) → speedTold (f s x .outcome) ≡ speed) → ⊥
 not-one-speed = toy.not-one-speed
 
 -- "returns the session untouched"
-pub not-untouched : (f : Logic) → Equals f → ((s : Session) (pulses beacon buttons mode : ℕ) → f s pulses beacon buttons mode .session ≡ s) → ⊥
+pub not-untouched : (f : Logic) → Equals f → ((s : Session) (x : Sample) → f s x .session ≡ s) → ⊥
 not-untouched = toy.not-untouched
 
 -- "obeys the first sample and then repeats itself"
 pub not-repeated : (f : Logic) → Equals f
-    → ((s : Session) (p b u m p′ b′ u′ m′ : ℕ) → f (f s p b u m .session) p′ b′ u′ m′ .outcome ≡ f s p b u m .outcome) → ⊥
+    → ((s : Session) (x y : Sample) → f (f s x .session) y .outcome ≡ f s x .outcome) → ⊥
 not-repeated = toy.not-repeating
 
 -- "an invented place": a place given by the reader, the writer or the sheet is that of the first fault there is

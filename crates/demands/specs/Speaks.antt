@@ -12,11 +12,12 @@ use Rattle.desk.specs.declared.state.Desk.{Desk}
 use Rattle.desk.specs.Clock.{sameMode, deskOlder, begun}
 use Rattle.buttons.specs.Buttons.{pressesOf}
 use Rattle.beacons.specs.Beacons.{isSide, readsOf, zoneMet}
-use Rattle.sample.specs.Sample.{functionOn}
+use Rattle.step.specs.Step.{functionOn}
+use Rattle.session.specs.declared.Sample.{Sample}
 use Rattle.session.specs.declared.Session.{Session}
 use Rattle.session.specs.Types.{typeSpeed}
 use Rattle.session.specs.Session.{inBts, freshSession}
-use Rattle.demands.specs.Runs.{Sample, after, accepted}
+use Rattle.demands.specs.Runs.{after, accepted}
 
 -- ---- where in the sample a rule is looked at
 

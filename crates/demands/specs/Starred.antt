@@ -12,10 +12,11 @@ use Rattle.curve.specs.Curve.{rowSpeed}
 use Rattle.signals.specs.MainControl.{mainOf}
 use Rattle.signals.specs.declared.control.MainKind.the-variants.{BeforeStop}
 use Rattle.desk.specs.State.{withMain, freshDesk}
+use Rattle.session.specs.declared.Sample.{Sample}
 use Rattle.session.specs.declared.Session.{Session}
 use Rattle.session.specs.declared.Outcome.{Outcome}
 use Rattle.session.specs.Session.{openSession}
-use Rattle.demands.specs.Runs.{Sample, after, runFrom}
+use Rattle.demands.specs.Runs.{after, runFrom}
 use Rattle.demands.specs.Rides.{conv, times, endOf, answer, shows, cardA-with}
 use Rattle.demands.specs.Computes.{definitions}
 

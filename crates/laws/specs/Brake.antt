@@ -10,10 +10,10 @@ use Rattle.leaf.specs.Choosing.{pick, and-split}
 use Rattle.leaf.specs.Numbers.{bitOf}
 use Rattle.card.specs.declared.Settings.{Settings}
 use Rattle.desk.specs.declared.state.Desk.{Desk}
-use Rattle.sample.specs.declared.step.Sample.{Sample}
-use Rattle.sample.specs.Speed.{crossingTurned}
-use Rattle.sample.specs.Brake.{standingCause, braked}
-use Rattle.sample.specs.Sample.{judgedOf, answerOf, stepOf}
+use Rattle.step.specs.declared.Input.{Input}
+use Rattle.step.specs.Speed.{crossingTurned}
+use Rattle.step.specs.Brake.{standingCause, braked}
+use Rattle.step.specs.Step.{judgedOf, answerOf, stepOf}
 use Rattle.laws.specs.Causes.{moved-has, arose-in}
 
 -- ---- the rule, on numbers
@@ -51,7 +51,7 @@ rule-off before = refl
 
 -- ---- of every sample
 
-module _ (s : Settings) (top : ℕ) (x : Sample) (d : Desk) where
+module _ (s : Settings) (top : ℕ) (x : Input) (d : Desk) where
   abbrev after : ℕ
   after = stepOf s top x d .desk .cause
 

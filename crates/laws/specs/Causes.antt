@@ -15,10 +15,10 @@ use Rattle.desk.specs.State.{takenOver, crossingSet, limitNow, modeChanged}
 use Rattle.desk.specs.Clock.{sameMode, deskOlder, reminded, missCause, advanced, begun}
 use Rattle.buttons.specs.Buttons.{optionUsed, limitRemoved, reminderAnswered, overrideArmed, stopIncreased, limitStepped, hidePressed}
 use Rattle.beacons.specs.Beacons.{readsOf, mainOpened, sideOpened, optionOffered, reading4, stopped, beaconTaken}
-use Rattle.sample.specs.declared.step.Sample.{Sample}
-use Rattle.sample.specs.Speed.{crossingTurned, supervisedOf}
-use Rattle.sample.specs.Sample.{movedOf, judgedOf, stepOf}
-use Rattle.sample.specs.Brake.{lowest}
+use Rattle.step.specs.declared.Input.{Input}
+use Rattle.step.specs.Speed.{crossingTurned, supervisedOf}
+use Rattle.step.specs.Step.{movedOf, judgedOf, stepOf}
+use Rattle.step.specs.Brake.{lowest}
 use Rattle.laws.specs.Walk.{Kept, moved-keeps}
 use Rattle.laws.specs.Parts.{pick-has, pick-low}
 
@@ -61,7 +61,7 @@ cause-kept cause =
     }
 
 -- mode, ages and misses, buttons and beacon leave the cause that stands
-pub moved-has : (s : Settings) (top : ℕ) (x : Sample) (d : Desk) → movedOf s top x d .desk .cause ≡ d .cause
+pub moved-has : (s : Settings) (top : ℕ) (x : Input) (d : Desk) → movedOf s top x d .desk .cause ≡ d .cause
 moved-has s top x d = moved-keeps (cause-kept (d .cause)) s top x d (λ e h. h) refl
 
 -- ---- "cause 1 main, cause 2 side", 3 the reminder's miss, 4 the stop, 5 the speed: what arises is one of them, or 0, none
@@ -86,17 +86,17 @@ lowest-in : (a b : ℕ) → a ≤ 5 → b ≤ 5 → lowest a b ≤ 5
 unfolding lowest
 lowest-in a b p q = pick-low 5 (eqb a 0) q (pick-low 5 (eqb b 0) {x = a} {y = min a b} p (omega arith))
 
-moved-cause : (s : Settings) (top : ℕ) (x : Sample) (d : Desk) → movedOf s top x d .cause ≤ 5
+moved-cause : (s : Settings) (top : ℕ) (x : Input) (d : Desk) → movedOf s top x d .cause ≤ 5
 unfolding movedOf
 moved-cause s top x d = lowest-in _ _ (begun-cause (x .bts) (x .m) _ (s .x) (s .y) d) (beacon-cause (x .beacon) _ _ _ _)
 
-judged-arose : (s : Settings) (top : ℕ) (x : Sample) (cause : ℕ) (d : Desk) → cause ≤ 5 → judgedOf s top x cause d .arose ≤ 5
+judged-arose : (s : Settings) (top : ℕ) (x : Input) (cause : ℕ) (d : Desk) → cause ≤ 5 → judgedOf s top x cause d .arose ≤ 5
 unfolding judgedOf
 judged-arose s top x cause d c =
     let speed = supervisedOf s top (crossingTurned (x .m) d) in
     lowest-in cause _ c (pick-low 5 (exceedsOf (x .m) (speed + 500)) {x = 5} {y = 0} (omega arith) (omega arith))
 
 -- what arises in a sample is 0..5
-pub arose-in : (s : Settings) (top : ℕ) (x : Sample) (d : Desk) → stepOf s top x d .arose ≤ 5
+pub arose-in : (s : Settings) (top : ℕ) (x : Input) (d : Desk) → stepOf s top x d .arose ≤ 5
 unfolding stepOf
 arose-in s top x d = judged-arose s top x _ _ (moved-cause s top x d)

@@ -12,10 +12,11 @@ use Rattle.card.specs.declared.Settings.{Settings}
 use Rattle.card.specs.Ranges.{checkSettings, inRange}
 use Rattle.card.proofs.Accepted.{in-range-only}
 use Rattle.desk.specs.declared.state.Desk.{Desk}
-use Rattle.sample.specs.declared.step.Sample.{Sample}
-use Rattle.sample.specs.Speed.{crossingTurned}
-use Rattle.sample.specs.Brake.{standingCause, braked}
-use Rattle.sample.specs.Sample.{movedOf, judgedOf, stepOf}
+use Rattle.step.specs.declared.Input.{Input}
+use Rattle.step.specs.Speed.{crossingTurned}
+use Rattle.step.specs.Brake.{standingCause, braked}
+use Rattle.step.specs.Step.{movedOf, judgedOf, stepOf}
+use Rattle.session.specs.declared.Sample.{Sample}
 use Rattle.session.specs.declared.Session.{Session}
 use Rattle.session.specs.Types.{typeSpeed, typeAllowed}
 use Rattle.session.specs.Session.{freshSession, openedAfter, openSession, insideOf, refusedBy, carried, ranOf, sampleOf}
@@ -45,10 +46,10 @@ braked-in arose rearm d a h = set-cause h _ (standing-in (d .cause) arose rearm 
 
 -- ---- one sample of the desk
 
-moved-in : (s : Settings) (top : ℕ) (x : Sample) (d : Desk) → x .beacon ≤ 11 → DeskIn d → DeskIn (movedOf s top x d .desk)
+moved-in : (s : Settings) (top : ℕ) (x : Input) (d : Desk) → x .beacon ≤ 11 → DeskIn d → DeskIn (movedOf s top x d .desk)
 moved-in s top x d b h = moved-keeps ranges-kept s top x d (λ e i. set-code i (x .beacon) b) h
 
-pub step-in : (s : Settings) (top : ℕ) (x : Sample) (d : Desk) → x .beacon ≤ 11 → DeskIn d → DeskIn (stepOf s top x d .desk)
+pub step-in : (s : Settings) (top : ℕ) (x : Input) (d : Desk) → x .beacon ≤ 11 → DeskIn d → DeskIn (stepOf s top x d .desk)
 unfolding stepOf judgedOf
 step-in s top x d b h = braked-in _ _ _ (arose-in s top x d) (turned-in (x .m) _ (moved-in s top x d b h))
 
@@ -74,7 +75,7 @@ opened-inside settings train s h = judged (checkSettings 2 settings) refl h
 
 -- ---- a sample
 
-ran-inside : (x : Sample) (s : Session) → x .beacon ≤ 11 → insideOf s ≡ true → insideOf (ranOf x s .session) ≡ true
+ran-inside : (x : Input) (s : Session) → x .beacon ≤ 11 → insideOf s ≡ true → insideOf (ranOf x s .session) ≡ true
 unfolding ranOf
 ran-inside x s b h =
     let i = inside-only s h in
@@ -87,45 +88,38 @@ ran-inside x s b h =
     })
 
 -- every session that a sample hands back is inside, where the one handed in is; a refused sample hands that one back
-pub sample-inside : (s : Session) (pulses beacon buttons mode : ℕ) → insideOf s ≡ true → insideOf (sampleOf s pulses beacon buttons mode .session) ≡ true
-sample-inside s pulses beacon buttons mode h = cases (eqb n 0) refl
+pub sample-inside : (s : Session) (x : Sample) → insideOf s ≡ true → insideOf (sampleOf s x .session) ≡ true
+sample-inside s x h = cases (eqb n 0) refl
   where
     n : ℕ
-    n = refusedBy s pulses beacon buttons mode
+    n = refusedBy s x
 
-    cases : (t : Bool) → eqb n 0 ≡ t → insideOf (sampleOf s pulses beacon buttons mode .session) ≡ true
+    cases : (t : Bool) → eqb n 0 ≡ t → insideOf (sampleOf s x .session) ≡ true
     cases true e =
         let z = eqb-true n 0 e in
-        let b = accepted s pulses beacon buttons mode .0 z .codes .beacon-high in
-        rw (accepted-as s pulses beacon buttons mode z) (ran-inside (carried s pulses beacon buttons mode) s b h)
-    cases false e = rw (refused-as s pulses beacon buttons mode n refl (eqb-false n 0 e)) h
+        let b = accepted s x .0 z .codes .beacon-high in
+        rw (accepted-as s x z) (ran-inside (carried s x) s b h)
+    cases false e = rw (refused-as s x n refl (eqb-false n 0 e)) h
 
 -- ---- any list of samples
 
--- pulses, beacon, buttons and mode of one sample, accepted or not
-pub record Given : Type 0 where
-  pub pulses : ℕ
-  pub beacon : ℕ
-  pub buttons : ℕ
-  pub mode : ℕ
-
 -- the session after a list of samples
-unfoldable pub after : Session → List Given → Session
+unfoldable pub after : Session → List Sample → Session
 after s [] = s
-after s (x ∷ rest) = after (sampleOf s (x .pulses) (x .beacon) (x .buttons) (x .mode) .session) rest
+after s (x ∷ rest) = after (sampleOf s x .session) rest
 
-pub after-inside : (s : Session) (xs : List Given) → insideOf s ≡ true → insideOf (after s xs) ≡ true
+pub after-inside : (s : Session) (xs : List Sample) → insideOf s ≡ true → insideOf (after s xs) ≡ true
 unfolding after
 after-inside s [] h = h
-after-inside s (x ∷ rest) h = after-inside _ rest (sample-inside s (x .pulses) (x .beacon) (x .buttons) (x .mode) h)
+after-inside s (x ∷ rest) h = after-inside _ rest (sample-inside s x h)
 
 -- "every session we make is inside": from opening on, after any samples
-pub always-inside : (settings : Settings) (train : ℕ) (s : Session) (xs : List Given) → openSession settings train ≡ given s → insideOf (after s xs) ≡ true
+pub always-inside : (settings : Settings) (train : ℕ) (s : Session) (xs : List Sample) → openSession settings train ≡ given s → insideOf (after s xs) ≡ true
 always-inside settings train s xs h = after-inside s xs (opened-inside settings train s h)
 
 -- so no session that we make is refused with 8
 pub never-8 :
-    (settings : Settings) (train : ℕ) (s : Session) (xs : List Given) (pulses beacon buttons mode : ℕ)
-    → openSession settings train ≡ given s → refusedBy (after s xs) pulses beacon buttons mode ≡ 8 → ⊥
-never-8 settings train s xs pulses beacon buttons mode h e =
-    refused-8 (after s xs) pulses beacon buttons mode .0 e (inside-only (after s xs) (always-inside settings train s xs h))
+    (settings : Settings) (train : ℕ) (s : Session) (xs : List Sample) (x : Sample)
+    → openSession settings train ≡ given s → refusedBy (after s xs) x ≡ 8 → ⊥
+never-8 settings train s xs x h e =
+    refused-8 (after s xs) x .0 e (inside-only (after s xs) (always-inside settings train s xs h))

@@ -20,9 +20,10 @@ use Rattle.desk.specs.State.{takenOver, modeChanged}
 use Rattle.desk.specs.Clock.{deskOlder, reminded, mainCounts, sideCounts, mainMissed, sideMissed, advanced, begun}
 use Rattle.buttons.specs.Buttons.{pressesOf}
 use Rattle.beacons.specs.Beacons.{readsOf, mainOpened, zoneMet, reading7, readingOf, readIf, beaconTaken}
-use Rattle.sample.specs.Speed.{crossingTurned, mainSpeed, leastIf, supervisedOf}
-use Rattle.sample.specs.Brake.{lowest, standingCause, braked, windowLamps, controlLamps, lampsOf}
-use Rattle.sample.specs.Sample.{movedOf, answerOf, judgedOf, stepOf}
+use Rattle.step.specs.Speed.{crossingTurned, mainSpeed, leastIf, supervisedOf}
+use Rattle.step.specs.Brake.{lowest, standingCause, braked, windowLamps, controlLamps, lampsOf}
+use Rattle.step.specs.Step.{movedOf, answerOf, judgedOf, stepOf}
+use Rattle.session.specs.declared.Sample.{Sample}
 use Rattle.session.specs.declared.Session.{Session}
 use Rattle.session.specs.declared.Outcome.{Outcome}
 use Rattle.session.specs.declared.Outcome.the-variants.{Answered, Refused}
@@ -41,14 +42,20 @@ unfolding openSession checkSettings faultOf settingsFault orFault typeAllowed ty
 opens = refl
 
 -- a standstill sample; then beacon 7 at 108 km/h, over S; then standstill again
+abbrev standing : Sample
+standing = record { pulses = 0; beacon = 0; buttons = 0; mode = 1 }
+
+abbrev before-red : Sample
+before-red = record { pulses = 300; beacon = 7; buttons = 0; mode = 1 }
+
 abbrev first : Sampled
-first = sampleOf opened 0 0 0 1
+first = sampleOf opened standing
 
 abbrev second : Sampled
-second = sampleOf (first .session) 300 7 0 1
+second = sampleOf (first .session) before-red
 
 abbrev third : Sampled
-third = sampleOf (second .session) 0 0 0 1
+third = sampleOf (second .session) standing
 
 -- S, lamps and cause, without crossing or limit
 abbrev answer : ℕ → ℕ → ℕ → Outcome
@@ -70,13 +77,13 @@ told = record { at-first = refl; at-second = refl; at-third = refl; start = refl
 
 -- ---- what a toy would be
 
--- a function of a session and a sample's pulses, beacon, buttons and mode
+-- a function of a session and a sample
 abbrev pub Logic : Type 0
-Logic = Session → ℕ → ℕ → ℕ → ℕ → Sampled
+Logic = Session → Sample → Sampled
 
 -- it equals the definition on all inputs
 abbrev pub Equals : Logic → Type 0
-Equals f = (s : Session) (pulses beacon buttons mode : ℕ) → f s pulses beacon buttons mode ≡ sampleOf s pulses beacon buttons mode
+Equals f = (s : Session) (x : Sample) → f s x ≡ sampleOf s x
 
 -- the S of an outcome, 0 where the sample is refused
 abbrev pub speedTold : Outcome → ℕ
@@ -88,48 +95,48 @@ isRefused (Answered a) = false
 isRefused (Refused r) = true
 
 module _ (f : Logic) (equals : Equals f) where
-  f-first : f opened 0 0 0 1 .outcome ≡ answer 10000 0 0
-  f-first = ap (λ (r : Sampled). r .outcome) (equals opened 0 0 0 1) ∙ told .at-first
+  f-first : f opened standing .outcome ≡ answer 10000 0 0
+  f-first = ap (λ (r : Sampled). r .outcome) (equals opened standing) ∙ told .at-first
 
-  f-second : f (first .session) 300 7 0 1 .outcome ≡ answer 8000 16 5
-  f-second = ap (λ (r : Sampled). r .outcome) (equals (first .session) 300 7 0 1) ∙ told .at-second
+  f-second : f (first .session) before-red .outcome ≡ answer 8000 16 5
+  f-second = ap (λ (r : Sampled). r .outcome) (equals (first .session) before-red) ∙ told .at-second
 
-  f-third : f (second .session) 0 0 0 1 .outcome ≡ answer 8000 1040 5
-  f-third = ap (λ (r : Sampled). r .outcome) (equals (second .session) 0 0 0 1) ∙ told .at-third
+  f-third : f (second .session) standing .outcome ≡ answer 8000 1040 5
+  f-third = ap (λ (r : Sampled). r .outcome) (equals (second .session) standing) ∙ told .at-third
 
   -- "a logic that refuses everything"
-  pub not-refusing : ((s : Session) (pulses beacon buttons mode : ℕ) → isRefused (f s pulses beacon buttons mode .outcome) ≡ true) → ⊥
-  not-refusing h = false≢true (sym (ap isRefused f-first) ∙ h opened 0 0 0 1)
+  pub not-refusing : ((s : Session) (x : Sample) → isRefused (f s x .outcome) ≡ true) → ⊥
+  not-refusing h = false≢true (sym (ap isRefused f-first) ∙ h opened standing)
 
   -- "one that answers one speed for ever"
-  pub not-one-speed : (speed : ℕ) → ((s : Session) (pulses beacon buttons mode : ℕ) → speedTold (f s pulses beacon buttons mode .outcome) ≡ speed) → ⊥
+  pub not-one-speed : (speed : ℕ) → ((s : Session) (x : Sample) → speedTold (f s x .outcome) ≡ speed) → ⊥
   not-one-speed speed h =
-      let a = sym (ap speedTold f-first) ∙ h opened 0 0 0 1 in
-      let b = sym (ap speedTold f-second) ∙ h (first .session) 300 7 0 1 in
+      let a = sym (ap speedTold f-first) ∙ h opened standing in
+      let b = sym (ap speedTold f-second) ∙ h (first .session) before-red in
       omega arith
 
   -- and so one that gives one answer for ever
-  pub not-constant : (o : Outcome) → ((s : Session) (pulses beacon buttons mode : ℕ) → f s pulses beacon buttons mode .outcome ≡ o) → ⊥
-  not-constant o h = not-one-speed (speedTold o) (λ s pulses beacon buttons mode. ap speedTold (h s pulses beacon buttons mode))
+  pub not-constant : (o : Outcome) → ((s : Session) (x : Sample) → f s x .outcome ≡ o) → ⊥
+  not-constant o h = not-one-speed (speedTold o) (λ s x. ap speedTold (h s x))
 
   -- "returns the session untouched"
-  pub not-untouched : ((s : Session) (pulses beacon buttons mode : ℕ) → f s pulses beacon buttons mode .session ≡ s) → ⊥
+  pub not-untouched : ((s : Session) (x : Sample) → f s x .session ≡ s) → ⊥
   not-untouched h =
-      let same : first .session ≡ opened = ap (λ (r : Sampled). r .session) (sym (equals opened 0 0 0 1)) ∙ h opened 0 0 0 1 in
+      let same : first .session ≡ opened = ap (λ (r : Sampled). r .session) (sym (equals opened standing)) ∙ h opened standing in
       let z : _≡_ {A = ℕ} 1 0 = sym (told .age) ∙ ap (λ (s : Session). s .desk .main .age) same in
       omega arith
 
   -- "obeys the first sample and then repeats itself": the answer to a sample is that of the sample before
   pub not-repeating :
-      ((s : Session) (p b u m p′ b′ u′ m′ : ℕ) → f (f s p b u m .session) p′ b′ u′ m′ .outcome ≡ f s p b u m .outcome) → ⊥
+      ((s : Session) (x y : Sample) → f (f s x .session) y .outcome ≡ f s x .outcome) → ⊥
   not-repeating h =
-      let next : f (f opened 0 0 0 1 .session) 300 7 0 1 .outcome ≡ answer 8000 16 5 = rw (equals opened 0 0 0 1) f-second in
-      let z : _≡_ {A = ℕ} 8000 10000 = ap speedTold (sym next ∙ h opened 0 0 0 1 300 7 0 1 ∙ f-first) in
+      let next : f (f opened standing .session) before-red .outcome ≡ answer 8000 16 5 = rw (equals opened standing) f-second in
+      let z : _≡_ {A = ℕ} 8000 10000 = ap speedTold (sym next ∙ h opened standing before-red ∙ f-first) in
       omega arith
 
   -- nor is the answer one of the sample alone: the same sample is answered otherwise in another session
   pub not-forgetful :
-      ((s t : Session) (pulses beacon buttons mode : ℕ) → f s pulses beacon buttons mode .outcome ≡ f t pulses beacon buttons mode .outcome) → ⊥
+      ((s t : Session) (x : Sample) → f s x .outcome ≡ f t x .outcome) → ⊥
   not-forgetful h =
-      let z : _≡_ {A = ℕ} 10000 8000 = ap speedTold (sym f-first ∙ h opened (second .session) 0 0 0 1 ∙ f-third) in
+      let z : _≡_ {A = ℕ} 10000 8000 = ap speedTold (sym f-first ∙ h opened (second .session) standing ∙ f-third) in
       omega arith

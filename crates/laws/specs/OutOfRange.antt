@@ -12,6 +12,7 @@ use Rattle.leaf.specs.Choosing.{pick, and-split}
 use Rattle.leaf.specs.Checks.{firstBad, orFault, FirstFault, first-fault}
 use Rattle.leaf.specs.declared.Refusal.the-variants.{Number}
 use Rattle.desk.specs.Clock.{sameMode}
+use Rattle.session.specs.declared.Sample.{Sample}
 use Rattle.session.specs.declared.Session.{Session}
 use Rattle.session.specs.declared.Outcome.the-variants.{Refused}
 use Rattle.session.specs.Session.{insideOf, standstill, inBts, sampleChecks, refusedBy, carried, ranOf, sampleOf}
@@ -20,26 +21,26 @@ use Rattle.laws.specs.Ranges.{Inside, inside-only, inside-when}
 -- ---- the facts
 
 -- "beacon 0..11, buttons newly pressed (bits 0..10), mode 1 CONV or 2 BTS"
-pub record CodesMet (beacon buttons mode : ℕ) : Type 0 where
-  pub beacon-high : beacon ≤ 11
-  pub buttons-high : buttons ≤ 2047
-  pub mode-low : 1 ≤ mode
-  pub mode-high : mode ≤ 2
+pub record CodesMet (x : Sample) : Type 0 where
+  pub beacon-high : x .beacon ≤ 11
+  pub buttons-high : x .buttons ≤ 2047
+  pub mode-low : 1 ≤ x .mode
+  pub mode-high : x .mode ≤ 2
 
 -- the session's mode by its number: "mode 1 CONV or 2 BTS"
 abbrev pub modeOf : Session → ℕ
 modeOf s = pick (s .desk .bts) 2 1
 
 -- "mode changed in a sample with pulses" is not so
-abbrev pub ModeMet : Session → ℕ → ℕ → Type 0
-ModeMet s pulses mode = (mode ≡ modeOf s) ⊎ (pulses ≡ 0)
+abbrev pub ModeMet : Session → Sample → Type 0
+ModeMet s x = (x .mode ≡ modeOf s) ⊎ (x .pulses ≡ 0)
 
 -- a sample that is accepted
-pub record Accepted (s : Session) (pulses beacon buttons mode : ℕ) : Type 0 where
+pub record Accepted (s : Session) (x : Sample) : Type 0 where
   pub inside : Inside s
-  pub codes : CodesMet beacon buttons mode
-  pub slow : pulses * s .settings .tick ≤ 100000
-  pub kept : ModeMet s pulses mode
+  pub codes : CodesMet x
+  pub slow : x .pulses * s .settings .tick ≤ 100000
+  pub kept : ModeMet s x
 
 -- ---- each test and its facts
 
@@ -58,24 +59,24 @@ outside-only s h i = apart (insideOf s) (inside-when s i) h
 pub outside-when : (s : Session) → (Inside s → ⊥) → insideOf s ≡ false
 outside-when s h = not-so (insideOf s) (λ e. h (inside-only s e))
 
-abbrev codesTest : ℕ → ℕ → ℕ → Bool
-codesTest beacon buttons mode = leb beacon 11 && leb buttons 2047 && leb 1 mode && leb mode 2
+abbrev codesTest : Sample → Bool
+codesTest x = leb (x .beacon) 11 && leb (x .buttons) 2047 && leb 1 (x .mode) && leb (x .mode) 2
 
-codes-only : (beacon buttons mode : ℕ) → codesTest beacon buttons mode ≡ true → CodesMet beacon buttons mode
-codes-only beacon buttons mode h =
-    let a = and-split (leb beacon 11 && leb buttons 2047 && leb 1 mode) (leb mode 2) h in
-    let b = and-split (leb beacon 11 && leb buttons 2047) (leb 1 mode) (a .0) in
-    let c = and-split (leb beacon 11) (leb buttons 2047) (b .0) in
+codes-only : (x : Sample) → codesTest x ≡ true → CodesMet x
+codes-only x h =
+    let a = and-split (leb (x .beacon) 11 && leb (x .buttons) 2047 && leb 1 (x .mode)) (leb (x .mode) 2) h in
+    let b = and-split (leb (x .beacon) 11 && leb (x .buttons) 2047) (leb 1 (x .mode)) (a .0) in
+    let c = and-split (leb (x .beacon) 11) (leb (x .buttons) 2047) (b .0) in
     record {
-      beacon-high = leb-true beacon 11 (c .0);
-      buttons-high = leb-true buttons 2047 (c .1);
-      mode-low = leb-true 1 mode (b .1);
-      mode-high = leb-true mode 2 (a .1);
+      beacon-high = leb-true (x .beacon) 11 (c .0);
+      buttons-high = leb-true (x .buttons) 2047 (c .1);
+      mode-low = leb-true 1 (x .mode) (b .1);
+      mode-high = leb-true (x .mode) 2 (a .1);
     }
 
-codes-when : (beacon buttons mode : ℕ) → CodesMet beacon buttons mode → codesTest beacon buttons mode ≡ true
-codes-when beacon buttons mode m =
-    rw (le-leb beacon 11 (m .beacon-high), le-leb buttons 2047 (m .buttons-high), le-leb 1 mode (m .mode-low), le-leb mode 2 (m .mode-high))
+codes-when : (x : Sample) → CodesMet x → codesTest x ≡ true
+codes-when x m =
+    rw (le-leb (x .beacon) 11 (m .beacon-high), le-leb (x .buttons) 2047 (m .buttons-high), le-leb 1 (x .mode) (m .mode-low), le-leb (x .mode) 2 (m .mode-high))
 
 abbrev modeTest : Bool → ℕ → ℕ → Bool
 modeTest bts pulses mode = sameMode bts (inBts mode) || standstill pulses
@@ -150,106 +151,106 @@ is-11 true true false e h = absurd (omega arith)
 is-11 true true true false h = (refl, (refl, (refl, refl)))
 is-11 true true true true h = absurd (omega arith)
 
-module _ (s : Session) (pulses beacon buttons mode : ℕ) where
+module _ (s : Session) (x : Sample) where
   abbrev a : Bool
   a = insideOf s
 
   abbrev b : Bool
-  b = codesTest beacon buttons mode
+  b = codesTest x
 
   abbrev c : Bool
-  c = leb (pulses * s .settings .tick) 100000
+  c = leb (x .pulses * s .settings .tick) 100000
 
   abbrev e : Bool
-  e = modeTest (s .desk .bts) pulses mode
+  e = modeTest (s .desk .bts) (x .pulses) (x .mode)
 
-  by-tests : refusedBy s pulses beacon buttons mode ≡ verdict a b c e
+  by-tests : refusedBy s x ≡ verdict a b c e
   unfolding refusedBy
   by-tests = four a b c e
 
   -- the sample is accepted exactly when all the facts hold
-  pub accepted : (refusedBy s pulses beacon buttons mode ≡ 0) ↔ Accepted s pulses beacon buttons mode
+  pub accepted : (refusedBy s x ≡ 0) ↔ Accepted s x
   accepted = (only, when)
     where
-      only : refusedBy s pulses beacon buttons mode ≡ 0 → Accepted s pulses beacon buttons mode
+      only : refusedBy s x ≡ 0 → Accepted s x
       only h =
           let t = is-0 a b c e (sym by-tests ∙ h) in
-          let codes = codes-only beacon buttons mode (t .1 .0) in
+          let codes = codes-only x (t .1 .0) in
           record {
             inside = inside-only s (t .0);
             codes = codes;
             slow = leb-true _ _ (t .1 .1 .0);
-            kept = mode-only (s .desk .bts) pulses mode (codes .mode-low) (codes .mode-high) (t .1 .1 .1);
+            kept = mode-only (s .desk .bts) (x .pulses) (x .mode) (codes .mode-low) (codes .mode-high) (t .1 .1 .1);
           }
 
-      when : Accepted s pulses beacon buttons mode → refusedBy s pulses beacon buttons mode ≡ 0
+      when : Accepted s x → refusedBy s x ≡ 0
       when m =
           by-tests
-          ∙ rw (inside-when s (m .inside), codes-when beacon buttons mode (m .codes), le-leb _ _ (m .slow), mode-when (s .desk .bts) pulses mode (m .kept))
+          ∙ rw (inside-when s (m .inside), codes-when x (m .codes), le-leb _ _ (m .slow), mode-when (s .desk .bts) (x .pulses) (x .mode) (m .kept))
 
   -- "8 | session out of its ranges"
-  pub refused-8 : (refusedBy s pulses beacon buttons mode ≡ 8) ↔ (Inside s → ⊥)
+  pub refused-8 : (refusedBy s x ≡ 8) ↔ (Inside s → ⊥)
   refused-8 = (λ h. outside-only s (is-8 a b c e (sym by-tests ∙ h)), λ m. by-tests ∙ rw (outside-when s m))
 
   -- "9 | beacon, buttons or mode out of range": and the session is inside
-  pub refused-9 : (refusedBy s pulses beacon buttons mode ≡ 9) ↔ (Inside s × (CodesMet beacon buttons mode → ⊥))
+  pub refused-9 : (refusedBy s x ≡ 9) ↔ (Inside s × (CodesMet x → ⊥))
   refused-9 = (only, when)
     where
-      only : refusedBy s pulses beacon buttons mode ≡ 9 → Inside s × (CodesMet beacon buttons mode → ⊥)
+      only : refusedBy s x ≡ 9 → Inside s × (CodesMet x → ⊥)
       only h =
           let t = is-9 a b c e (sym by-tests ∙ h) in
-          (inside-only s (t .0), λ m. apart b (codes-when beacon buttons mode m) (t .1))
+          (inside-only s (t .0), λ m. apart b (codes-when x m) (t .1))
 
-      when : Inside s × (CodesMet beacon buttons mode → ⊥) → refusedBy s pulses beacon buttons mode ≡ 9
-      when m = by-tests ∙ rw (inside-when s (m .0), not-so b (λ q. m .1 (codes-only beacon buttons mode q)))
+      when : Inside s × (CodesMet x → ⊥) → refusedBy s x ≡ 9
+      when m = by-tests ∙ rw (inside-when s (m .0), not-so b (λ q. m .1 (codes-only x q)))
 
   -- "10 | pulses × tick length above 100,000": and nothing before it
-  pub refused-10 : (refusedBy s pulses beacon buttons mode ≡ 10) ↔ (Inside s × (CodesMet beacon buttons mode × (100000 < pulses * s .settings .tick)))
+  pub refused-10 : (refusedBy s x ≡ 10) ↔ (Inside s × (CodesMet x × (100000 < x .pulses * s .settings .tick)))
   refused-10 = (only, when)
     where
-      only : refusedBy s pulses beacon buttons mode ≡ 10 → Inside s × (CodesMet beacon buttons mode × (100000 < pulses * s .settings .tick))
+      only : refusedBy s x ≡ 10 → Inside s × (CodesMet x × (100000 < x .pulses * s .settings .tick))
       only h =
           let t = is-10 a b c e (sym by-tests ∙ h) in
-          (inside-only s (t .0), (codes-only beacon buttons mode (t .1 .0), leb-false _ _ (t .1 .1)))
+          (inside-only s (t .0), (codes-only x (t .1 .0), leb-false _ _ (t .1 .1)))
 
-      when : Inside s × (CodesMet beacon buttons mode × (100000 < pulses * s .settings .tick)) → refusedBy s pulses beacon buttons mode ≡ 10
-      when m = by-tests ∙ rw (inside-when s (m .0), codes-when beacon buttons mode (m .1 .0), lt-leb _ _ (m .1 .1))
+      when : Inside s × (CodesMet x × (100000 < x .pulses * s .settings .tick)) → refusedBy s x ≡ 10
+      when m = by-tests ∙ rw (inside-when s (m .0), codes-when x (m .1 .0), lt-leb _ _ (m .1 .1))
 
   -- "11 | mode changed in a sample with pulses": and nothing before it
-  pub refused-11 : (refusedBy s pulses beacon buttons mode ≡ 11)
-      ↔ (Inside s × (CodesMet beacon buttons mode × ((pulses * s .settings .tick ≤ 100000) × (ModeMet s pulses mode → ⊥))))
+  pub refused-11 : (refusedBy s x ≡ 11)
+      ↔ (Inside s × (CodesMet x × ((x .pulses * s .settings .tick ≤ 100000) × (ModeMet s x → ⊥))))
   refused-11 = (only, when)
     where
-      only : refusedBy s pulses beacon buttons mode ≡ 11
-          → Inside s × (CodesMet beacon buttons mode × ((pulses * s .settings .tick ≤ 100000) × (ModeMet s pulses mode → ⊥)))
+      only : refusedBy s x ≡ 11
+          → Inside s × (CodesMet x × ((x .pulses * s .settings .tick ≤ 100000) × (ModeMet s x → ⊥)))
       only h =
           let t = is-11 a b c e (sym by-tests ∙ h) in
-          (inside-only s (t .0), (codes-only beacon buttons mode (t .1 .0), (leb-true _ _ (t .1 .1 .0), λ m. apart e (mode-when (s .desk .bts) pulses mode m) (t .1 .1 .1))))
+          (inside-only s (t .0), (codes-only x (t .1 .0), (leb-true _ _ (t .1 .1 .0), λ m. apart e (mode-when (s .desk .bts) (x .pulses) (x .mode) m) (t .1 .1 .1))))
 
-      when : Inside s × (CodesMet beacon buttons mode × ((pulses * s .settings .tick ≤ 100000) × (ModeMet s pulses mode → ⊥)))
-          → refusedBy s pulses beacon buttons mode ≡ 11
+      when : Inside s × (CodesMet x × ((x .pulses * s .settings .tick ≤ 100000) × (ModeMet s x → ⊥)))
+          → refusedBy s x ≡ 11
       when m =
           let codes = m .1 .0 in
           by-tests
           ∙ rw (
             inside-when s (m .0),
-            codes-when beacon buttons mode codes,
+            codes-when x codes,
             le-leb _ _ (m .1 .1 .0),
-            not-so e (λ q. m .1 .1 .1 (mode-only (s .desk .bts) pulses mode (codes .mode-low) (codes .mode-high) q)),
+            not-so e (λ q. m .1 .1 .1 (mode-only (s .desk .bts) (x .pulses) (x .mode) (codes .mode-low) (codes .mode-high) q)),
           )
 
   -- "sample 8, 9, 10, 11": a number that is given is that of a check of the list that fails, and every check before it holds
-  pub first-refused : (n : ℕ) → refusedBy s pulses beacon buttons mode ≡ n → (n ≡ 0 → ⊥) → FirstFault n (sampleChecks s pulses beacon buttons mode)
+  pub first-refused : (n : ℕ) → refusedBy s x ≡ n → (n ≡ 0 → ⊥) → FirstFault n (sampleChecks s x)
   unfolding refusedBy
-  first-refused n h z = first-fault (sampleChecks s pulses beacon buttons mode) n tt h z
+  first-refused n h z = first-fault (sampleChecks s x) n tt h z
 
   -- "A refusal returns its number .. and leaves .. the handed-in session unchanged."
-  pub refused-as : (n : ℕ) → refusedBy s pulses beacon buttons mode ≡ n → (n ≡ 0 → ⊥)
-      → sampleOf s pulses beacon buttons mode ≡ record { session = s; outcome = Refused (Number n) }
+  pub refused-as : (n : ℕ) → refusedBy s x ≡ n → (n ≡ 0 → ⊥)
+      → sampleOf s x ≡ record { session = s; outcome = Refused (Number n) }
   unfolding sampleOf
   refused-as n h z = rw (h, ne-eqb n 0 z)
 
   -- a sample that is accepted is run
-  pub accepted-as : refusedBy s pulses beacon buttons mode ≡ 0 → sampleOf s pulses beacon buttons mode ≡ ranOf (carried s pulses beacon buttons mode) s
+  pub accepted-as : refusedBy s x ≡ 0 → sampleOf s x ≡ ranOf (carried s x) s
   unfolding sampleOf
   accepted-as h = rw h

@@ -10,10 +10,10 @@ use lib.Dec.{leb}
 use borrow.Author.Tests.{leb-true, leb-false}
 use Rattle.card.specs.declared.Settings.{Settings}
 use Rattle.desk.specs.declared.state.Desk.{Desk}
-use Rattle.sample.specs.declared.step.Sample.{Sample}
-use Rattle.sample.specs.Brake.{braked}
-use Rattle.sample.specs.Sample.{judgedOf, answerOf, stepOf}
-use Rattle.sample.specs.Speed.{Standing, limits, limitsBelow, leastIf, leastOf, supervisedOf}
+use Rattle.step.specs.declared.Input.{Input}
+use Rattle.step.specs.Brake.{braked}
+use Rattle.step.specs.Step.{judgedOf, answerOf, stepOf}
+use Rattle.step.specs.Speed.{Standing, limits, limitsBelow, leastIf, leastOf, supervisedOf}
 
 -- ---- one limit more
 
@@ -102,6 +102,6 @@ module _ (s : Settings) (top : ℕ) (d : Desk) where
   speed-only n one least = let a = speed-below n one in let b = least (supervisedOf s top d) speed-among in omega arith
 
 -- the S that a sample answers is that of the desk at its end
-pub speed-answered : (s : Settings) (top : ℕ) (x : Sample) (d : Desk) → stepOf s top x d .answer .speed ≡ supervisedOf s top (stepOf s top x d .desk)
+pub speed-answered : (s : Settings) (top : ℕ) (x : Input) (d : Desk) → stepOf s top x d .answer .speed ≡ supervisedOf s top (stepOf s top x d .desk)
 unfolding stepOf judgedOf answerOf braked supervisedOf
 speed-answered s top x d = refl

@@ -18,8 +18,8 @@ use Rattle.desk.specs.State.{withCode, withWindow, withSide, takenOver, crossin
 use Rattle.desk.specs.Clock.{sameMode, deskOlder, reminded, mainCounts, sideCounts, mainMissed, sideMissed, advanced, begun}
 use Rattle.buttons.specs.Buttons.{chosen, answeredBy, mainAnswered, sideAnswered, pressed, optionUsed, limitRemoved, reminderAnswered, overrideArmed, stopIncreased, limitStepped, crossingPressed, limitPressed, overridePressed, increasePressed, hidePressed, windowPresses, allPresses, pressesOf}
 use Rattle.beacons.specs.Beacons.{mainOpened, sideOpened, reading1, readingRow, optionOffered, reading3, reading4, zoneOr, zoneMet, reading7, stopped, reading8, reading9, readingLimit, readingOf, readIf, beaconTaken}
-use Rattle.sample.specs.declared.step.Sample.{Sample}
-use Rattle.sample.specs.Sample.{movedOf}
+use Rattle.step.specs.declared.Input.{Input}
+use Rattle.step.specs.Step.{movedOf}
 use Rattle.laws.specs.Parts.{pick-has}
 
 -- P holds of a desk, R of a reading's age and distance; each thing that can happen keeps P
@@ -202,7 +202,7 @@ module _ {P : Desk → Type 0} {R : ℕ → ℕ → Type 0} (k : Kept P R) where
   beacon-keeps code f0 f1 f3 d h = read-keeps _ code f0 f1 _ h
 
   -- all the steps up to the beacon, where remembering the sample's code keeps P too
-  pub moved-keeps : (s : Settings) (top : ℕ) (x : Sample) (d : Desk) → ((e : Desk) → P e → P (withCode (x .beacon) e)) → P d → P (movedOf s top x d .desk)
+  pub moved-keeps : (s : Settings) (top : ℕ) (x : Input) (d : Desk) → ((e : Desk) → P e → P (withCode (x .beacon) e)) → P d → P (movedOf s top x d .desk)
   unfolding movedOf
   moved-keeps s top x d code h =
       beacon-keeps (x .beacon) _ _ _ _

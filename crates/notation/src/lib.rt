@@ -11,12 +11,12 @@ use leaf::choose8;
 use leaf::choose16;
 use leaf::low;
 use leaf::older;
-use sample::step::Answer;
 use session::Outcome;
 use shell::digit;
 use shell::next;
 use shell::number;
 use shell::say;
+use step::Answer;
 
 // ---- a line
 

@@ -5,7 +5,7 @@ use mathlib.Core.Path.{_≡_, refl, ap, _∙_}
 use mathlib.Core.Bool.{true, false}
 use mathlib.Core.List.{List, [], _∷_, _++_, append-nil}
 use lib.Dec.{eqb}
-use Rattle.sample.specs.declared.step.Answer.{Answer as Told}
+use Rattle.step.specs.declared.Answer.{Answer as Told}
 use Rattle.text.specs.Decimal.{line}
 use Rattle.rides.specs.Ride.{rideAfter, turnAt}
 use Rattle.rides.specs.declared.ride.Ride.{Ride}

@@ -17,9 +17,9 @@ use Rattle.desk.specs.Clock.{deskOlder, reminded, mainCounts, sideCounts, mainM
 use Rattle.desk.specs.State.{takenOver, crossingSet, limitNow, modeChanged}
 use Rattle.buttons.specs.Buttons.{chosen, answeredBy, mainAnswered, sideAnswered, pressed, freeFor, optionUsed, limitRemoved, reminderAnswered, overrideArmed, stopIncreased, limitStepped, crossingPressed, limitPressed, overridePressed, increasePressed, hidePressed, windowPresses, allPresses, pressesOf}
 use Rattle.beacons.specs.Beacons.{readsOf, mainOpened, sideOpened, reading1, readingRow, optionOffered, reading3, reading4, zoneMet, reading7, stopped, reading8, reading9, readingLimit, readingOf, readIf, beaconTaken}
-use Rattle.sample.specs.Brake.{lowest, standingCause, braked, windowLamps, controlLamps, lampsOf}
-use Rattle.sample.specs.Sample.{movedOf, answerOf, judgedOf, stepOf}
-use Rattle.sample.specs.Speed.{crossingTurned, mainSpeed, leastIf, supervisedOf, signalsLeast}
+use Rattle.step.specs.Brake.{lowest, standingCause, braked, windowLamps, controlLamps, lampsOf}
+use Rattle.step.specs.Step.{movedOf, answerOf, judgedOf, stepOf}
+use Rattle.step.specs.Speed.{crossingTurned, mainSpeed, leastIf, supervisedOf, signalsLeast}
 use Rattle.session.specs.Ranges.{deskInside}
 use Rattle.session.specs.Session.{openSession, settingsInside, insideOf, refusedBy, ranOf, sampleOf}
 use Rattle.session.specs.Types.{typeSpeed, typeAllowed}
@@ -27,7 +27,7 @@ use Rattle.text.specs.Decimal.{upperOf, lowerOf, decimal}
 use Rattle.rides.specs.Recording.{goodRecording}
 use Rattle.rides.specs.Ride.{startRide, toldOf, turnOf, turnAt, rideAfter}
 use Rattle.printed.specs.Printed.{heading, refusedLine, shownText, linesOf, startedText, cardText, printedRide}
-use Rattle.printed.specs.declared.Columns.the-variants.{Four}
+use Rattle.printed.specs.declared.Columns.the-variants.{Paper}
 
 -- "Card A: `002701A0006450 A0784B14 A0504B16 A0644B16 A0504B16 50281414 9B1E1416 A03C4B16 64640001`"
 abbrev pub card-A : List ℕ
@@ -48,6 +48,6 @@ lines-A =
     0x31 ∷ 0x20 ∷ 0x31 ∷ 0x30 ∷ 0x30 ∷ 0x30 ∷ 0x30 ∷ 0x20 ∷ 0x30 ∷ 0x20 ∷ 0x30 ∷ 0x0A ∷ 0x32 ∷ 0x20 ∷ 0x38 ∷ 0x30 ∷ 0x30 ∷ 0x30 ∷ 0x20 ∷
     0x31 ∷ 0x36 ∷ 0x20 ∷ 0x30 ∷ 0x0A ∷ 0x33 ∷ 0x20 ∷ 0x38 ∷ 0x30 ∷ 0x30 ∷ 0x30 ∷ 0x20 ∷ 0x30 ∷ 0x20 ∷ 0x30 ∷ 0x0A ∷ []
 
-pub paper-ride : printedRide Four card-A ride-A ≡ heading Four ++ lines-A
+pub paper-ride : printedRide Paper card-A ride-A ≡ heading Paper ++ lines-A
 unfolding refusedLine shownText linesOf startedText cardText printedRide byte word long orFault rowAt settingsFault faultOf checkSettings functionsFrom settingsFrom answerBy readCard fallenOf curveOf rowSpeed mainOlder nearOf mayIncrease increaseLit alongsideOlder alongsideAfter overrideOlder reminderOlder firstMet reminderMissed takesPress secondMet remindedOf answersOf windowOlder missedOf timeLeft crossingOlder unprotectedSet protectedSet turnsAt turnedAt iconOf optionOlder limitSet steppedFinal limitSpeed mayStep removable deskOlder reminded mainCounts sideCounts mainMissed sideMissed advanced begun takenOver crossingSet limitNow modeChanged chosen answeredBy mainAnswered sideAnswered pressed freeFor optionUsed limitRemoved reminderAnswered overrideArmed stopIncreased limitStepped crossingPressed limitPressed overridePressed increasePressed hidePressed windowPresses allPresses pressesOf readsOf mainOpened sideOpened reading1 readingRow optionOffered reading3 reading4 zoneMet reading7 stopped reading8 reading9 readingLimit readingOf readIf beaconTaken lowest standingCause braked windowLamps controlLamps lampsOf movedOf answerOf judgedOf stepOf crossingTurned mainSpeed leastIf supervisedOf signalsLeast deskInside openSession settingsInside insideOf refusedBy ranOf sampleOf typeSpeed typeAllowed upperOf lowerOf decimal goodRecording startRide toldOf turnOf turnAt rideAfter
 paper-ride = refl

@@ -12,7 +12,7 @@ use Rattle.card.specs.declared.Settings.{Settings}
 use Rattle.card.specs.Reading.{readCard}
 use Rattle.session.specs.declared.Session.{Session}
 use Rattle.session.specs.Session.{openSession}
-use Rattle.sample.specs.declared.step.Answer.{Answer as Told}
+use Rattle.step.specs.declared.Answer.{Answer as Told}
 use Rattle.text.specs.Decimal.{naught, digitOf, upperOf, lowerOf, decimal, line}
 use Rattle.rides.specs.Recording.{samplesIn, goodRecording, trainOf}
 use Rattle.rides.specs.Ride.{startRide, freshRide, rideAfter, turnAt}
@@ -22,7 +22,7 @@ use Rattle.rides.specs.declared.ride.Shown.the-variants as shown
 use Rattle.rides.proofs.Recordings.{good-met}
 use Rattle.printed.specs.Printed.{heading, refusedLine, columnsOf, shownText, linesOf, startedText, cardText, printedRide}
 use Rattle.printed.specs.declared.Columns.{Columns}
-use Rattle.printed.specs.declared.Columns.the-variants.{Four, Six}
+use Rattle.printed.specs.declared.Columns.the-variants.{Paper, Whole}
 
 digit-length : (power n : ℕ) → length (digitOf power n) ≤ 1
 digit-length power n = cases (naught + n / power % 10) (ltb n power)
@@ -46,10 +46,10 @@ unfolding decimal
 decimal-length n = simp length-append (omega (arith, upper-length n, lower-length n))
 
 answer-length : (columns : Columns) (number : ℕ) (a : Told) → length (line number (columnsOf columns a)) ≤ 66
-answer-length Four number a =
+answer-length Paper number a =
     simp length-append
     (omega (arith, decimal-length number, decimal-length (a .speed), decimal-length (a .lamps), decimal-length (a .cause)))
-answer-length Six number a =
+answer-length Whole number a =
     simp length-append
     (omega (arith, decimal-length number, decimal-length (a .speed), decimal-length (a .lamps), decimal-length (a .cause), decimal-length (a .icon), decimal-length (pick (a .limit) 1 0)))
 
@@ -91,8 +91,8 @@ card-length columns recording (refused n) = omega (arith, refused-length n)
 card-length columns recording (refusedAt n place) = omega (arith, refused-length n)
 
 heading-length : (columns : Columns) → length (heading columns) ≤ 34
-heading-length Four = lit≤ tt
-heading-length Six = lit≤ tt
+heading-length Paper = lit≤ tt
+heading-length Whole = lit≤ tt
 
 pub printed-length : (columns : Columns) (card recording : List ℕ) → length (printedRide columns card recording) ≤ 660040
 unfolding printedRide

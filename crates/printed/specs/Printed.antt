@@ -6,7 +6,7 @@ use Rattle.leaf.specs.Choosing.{pick}
 use Rattle.leaf.specs.Answers.{Answer, given, refused, refusedAt}
 use Rattle.card.specs.declared.Settings.{Settings}
 use Rattle.card.specs.Reading.{readCard}
-use Rattle.sample.specs.declared.step.Answer.{Answer as Told}
+use Rattle.step.specs.declared.Answer.{Answer as Told}
 use Rattle.session.specs.declared.Session.{Session}
 use Rattle.text.specs.Decimal.{ended, newline, line}
 use Rattle.rides.specs.Recording.{samplesIn}
@@ -15,17 +15,17 @@ use Rattle.rides.specs.declared.ride.Ride.{Ride}
 use Rattle.rides.specs.declared.ride.Shown.{Shown}
 use Rattle.rides.specs.declared.ride.Shown.the-variants as shown
 use Rattle.printed.specs.declared.Columns.{Columns}
-use Rattle.printed.specs.declared.Columns.the-variants.{Four, Six}
+use Rattle.printed.specs.declared.Columns.the-variants.{Paper, Whole}
 
 -- ---- the words
 
 -- "n limit lamps cause"
-abbrev pub fourWords : List ℕ
-fourWords = 0x6E ∷ 0x20 ∷ 0x6C ∷ 0x69 ∷ 0x6D ∷ 0x69 ∷ 0x74 ∷ 0x20 ∷ 0x6C ∷ 0x61 ∷ 0x6D ∷ 0x70 ∷ 0x73 ∷ 0x20 ∷ 0x63 ∷ 0x61 ∷ 0x75 ∷ 0x73 ∷ 0x65 ∷ []
+abbrev pub paperWords : List ℕ
+paperWords = 0x6E ∷ 0x20 ∷ 0x6C ∷ 0x69 ∷ 0x6D ∷ 0x69 ∷ 0x74 ∷ 0x20 ∷ 0x6C ∷ 0x61 ∷ 0x6D ∷ 0x70 ∷ 0x73 ∷ 0x20 ∷ 0x63 ∷ 0x61 ∷ 0x75 ∷ 0x73 ∷ 0x65 ∷ []
 
 -- " icon standing"
-abbrev pub moreWords : List ℕ
-moreWords = 0x20 ∷ 0x69 ∷ 0x63 ∷ 0x6F ∷ 0x6E ∷ 0x20 ∷ 0x73 ∷ 0x74 ∷ 0x61 ∷ 0x6E ∷ 0x64 ∷ 0x69 ∷ 0x6E ∷ 0x67 ∷ []
+abbrev pub wholeWords : List ℕ
+wholeWords = 0x20 ∷ 0x69 ∷ 0x63 ∷ 0x6F ∷ 0x6E ∷ 0x20 ∷ 0x73 ∷ 0x74 ∷ 0x61 ∷ 0x6E ∷ 0x64 ∷ 0x69 ∷ 0x6E ∷ 0x67 ∷ []
 
 -- "refused "
 abbrev pub refusedWord : List ℕ
@@ -35,8 +35,8 @@ refusedWord = 0x72 ∷ 0x65 ∷ 0x66 ∷ 0x75 ∷ 0x73 ∷ 0x65 ∷ 0x64 ∷ 0x2
 
 -- the columns' names
 abbrev pub heading : Columns → List ℕ
-heading Four = fourWords ++ newline ∷ []
-heading Six = fourWords ++ moreWords ++ newline ∷ []
+heading Paper = paperWords ++ newline ∷ []
+heading Whole = paperWords ++ wholeWords ++ newline ∷ []
 
 -- "A refusal prints the line `refused` and its number"
 unfoldable pub refusedLine : ℕ → List ℕ
@@ -48,8 +48,8 @@ flagOf b = pick b 1 0
 
 -- a sample's answer, behind its number: S, lamps, cause; and icon and limit
 abbrev pub columnsOf : Columns → Told → List ℕ
-columnsOf Four a = a .speed ∷ a .lamps ∷ a .cause ∷ []
-columnsOf Six a = a .speed ∷ a .lamps ∷ a .cause ∷ a .icon ∷ flagOf (a .limit) ∷ []
+columnsOf Paper a = a .speed ∷ a .lamps ∷ a .cause ∷ []
+columnsOf Whole a = a .speed ∷ a .lamps ∷ a .cause ∷ a .icon ∷ flagOf (a .limit) ∷ []
 
 -- the line of the sample with this number, or the refusal's; nothing after a refusal
 unfoldable pub shownText : Columns → ℕ → Shown → List ℕ

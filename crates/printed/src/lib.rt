@@ -6,8 +6,8 @@ use rides::ride::Ride;
 use rides::ride::Shown;
 use rides::ride::number_of;
 use rides::ride::start;
-use sample::step::Answer;
 use session::Opened;
+use step::Answer;
 use text::put_ended;
 use text::put_text;
 ghost use mathlib.Core.Path.{_≡_};
@@ -25,18 +25,19 @@ const BLANK: u8 = 0x20;
 
 const NEWLINE: u8 = 0x0A;
 
-// Which columns are printed: sample number, S, lamps, cause; and with them icon and limit standing.
+// Which columns are printed: document 01's, the sample's number, S, lamps and cause; or with them the rest of the answer, icon and
+// limit standing.
 pub enum Columns {
-    Four,
-    Six,
+    Paper,
+    Whole,
 }
 
 fn put_heading(columns: Columns, out: &mut [u8], at: usize) -> usize
     ensures { λ r. ⌜ (now (out .exit), r) ≡ typed (heading columns) (now (out .entry), at) ⌝ }
 {
     match columns {
-        Columns::Four => put_text(out, at, b"n limit lamps cause\n"),
-        Columns::Six => put_text(out, at, b"n limit lamps cause icon standing\n"),
+        Columns::Paper => put_text(out, at, b"n limit lamps cause\n"),
+        Columns::Whole => put_text(out, at, b"n limit lamps cause icon standing\n"),
     }
 }
 
@@ -60,8 +61,8 @@ fn put_answer(columns: Columns, out: &mut [u8], at: usize, number: u32, a: Answe
     let at = put_ended(out, at, a.speed, BLANK);
     let at = put_ended(out, at, a.lamps as u32, BLANK);
     match columns {
-        Columns::Four => put_ended(out, at, a.cause as u32, NEWLINE),
-        Columns::Six => {
+        Columns::Paper => put_ended(out, at, a.cause as u32, NEWLINE),
+        Columns::Whole => {
             let at = put_ended(out, at, a.cause as u32, BLANK);
             let at = put_ended(out, at, a.icon as u32, BLANK);
             put_ended(out, at, flag(a.limit), NEWLINE)

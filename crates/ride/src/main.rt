@@ -2,5 +2,5 @@
 use printed::Columns;
 
 fn main() {
-    ride_shell::main_with(Columns::Four, b"usage: ride CARD < RECORDING\n");
+    ride_shell::main_with(Columns::Paper, b"usage: ride CARD < RECORDING\n");
 }

@@ -10,7 +10,7 @@ use lib.ListN.{length, take, drop}
 use lib.Seq.{drop-cons, take-add, take-all}
 use borrow.Author.Tests.{leb-true, le-leb, eqb-true, eq-eqb}
 use Rattle.leaf.specs.Bytes.{byte, word, long}
-use Rattle.rides.specs.Recording.{samplesIn, mostSamples, goodRecording, placeOf, pulsesAt, beaconAt, buttonsAt, modeAt}
+use Rattle.rides.specs.Recording.{samplesIn, mostSamples, goodRecording, placeOf, sampleAt}
 
 -- what 14 asks, in plain facts
 pub record RecordingMet (recording : List ℕ) (n : ℕ) : Type 0 where
@@ -55,8 +55,8 @@ six recording k =
 
 -- they are its fields: pulses 2, beacon, buttons 2, mode
 pub six-fields : (recording : List ℕ) (k : ℕ)
-    → (pulsesAt recording k ≡ byte recording (placeOf k) * 256 + byte recording (placeOf k + 1)) × (beaconAt recording k ≡ byte recording (placeOf k + 2))
-    × (buttonsAt recording k ≡ byte recording (placeOf k + 3) * 256 + byte recording (placeOf k + 4)) × (modeAt recording k ≡ byte recording (placeOf k + 5))
+    → (sampleAt recording k .pulses ≡ byte recording (placeOf k) * 256 + byte recording (placeOf k + 1)) × (sampleAt recording k .beacon ≡ byte recording (placeOf k + 2))
+    × (sampleAt recording k .buttons ≡ byte recording (placeOf k + 3) * 256 + byte recording (placeOf k + 4)) × (sampleAt recording k .mode ≡ byte recording (placeOf k + 5))
 unfolding word
 six-fields recording k =
     let e : placeOf k + 3 + 1 ≡ placeOf k + 4 = omega arith in

@@ -7,41 +7,42 @@ use mathlib.Core.List.{List}
 use lib.Dec.{eqb}
 use Rattle.leaf.specs.Choosing.{pick}
 use Rattle.leaf.specs.declared.Refusal.the-variants.{Number}
-use Rattle.sample.specs.declared.step.Answer.{Answer}
+use Rattle.step.specs.declared.Answer.{Answer}
+use Rattle.session.specs.declared.Sample.{Sample}
 use Rattle.session.specs.declared.Session.{Session}
 use Rattle.session.specs.declared.Sampled.{Sampled}
 use Rattle.session.specs.declared.Outcome.the-variants as outcome
 use Rattle.session.specs.Session.{refusedBy, ranOf, carried, sampleOf}
-use Rattle.rides.specs.Recording.{pulsesAt, beaconAt, buttonsAt, modeAt}
+use Rattle.rides.specs.Recording.{sampleAt}
 use Rattle.rides.specs.Ride.{freshRide, toldOf, turnOf, turnAt, rideAfter}
 use Rattle.rides.specs.declared.ride.Ride.{Ride}
 use Rattle.rides.specs.declared.ride.Shown.the-variants as shown
 use Rattle.rides.specs.declared.ride.Turned.{Turned}
 
 -- what the session makes of the recording's sample that k samples stand before
-abbrev pub sampleAt : Session → List ℕ → ℕ → Sampled
-sampleAt s recording k = sampleOf s (pulsesAt recording k) (beaconAt recording k) (buttonsAt recording k) (modeAt recording k)
+abbrev pub sampledAt : Session → List ℕ → ℕ → Sampled
+sampledAt s recording k = sampleOf s (sampleAt recording k)
 
 -- ---- one after the other
 
 -- the sessions of a ride: s opened, and then each one the session after the accepted sample before it
 pub data Reaches (s : Session) (recording : List ℕ) : ℕ → Session → Type 0 where
   opened : Reaches s recording 0 s
-  answered : {k : ℕ} {t : Session} (a : Answer) → Reaches s recording k t → sampleAt t recording k .outcome ≡ outcome.Answered a
-      → Reaches s recording (suc k) (sampleAt t recording k .session)
+  answered : {k : ℕ} {t : Session} (a : Answer) → Reaches s recording k t → sampledAt t recording k .outcome ≡ outcome.Answered a
+      → Reaches s recording (suc k) (sampledAt t recording k .session)
 
 -- one sample more is one turn more
 pub after-suc : (r : Ride) (recording : List ℕ) (k : ℕ) → rideAfter r recording (suc k) ≡ turnAt (rideAfter r recording k) recording k .ride
 unfolding rideAfter
 after-suc r recording k = refl
 
-turn-answers : (t : Session) (recording : List ℕ) (k : ℕ) (a : Answer) → sampleAt t recording k .outcome ≡ outcome.Answered a
-    → turnAt (freshRide t) recording k ≡ record { ride = freshRide (sampleAt t recording k .session); shown = shown.Answered a }
+turn-answers : (t : Session) (recording : List ℕ) (k : ℕ) (a : Answer) → sampledAt t recording k .outcome ≡ outcome.Answered a
+    → turnAt (freshRide t) recording k ≡ record { ride = freshRide (sampledAt t recording k .session); shown = shown.Answered a }
 unfolding turnAt turnOf toldOf
 turn-answers t recording k a e = rw e
 
-turn-refuses : (t : Session) (recording : List ℕ) (k n : ℕ) → sampleAt t recording k .outcome ≡ outcome.Refused (Number n)
-    → turnAt (freshRide t) recording k ≡ record { ride = record { session = sampleAt t recording k .session; ended = n }; shown = shown.Refused n }
+turn-refuses : (t : Session) (recording : List ℕ) (k n : ℕ) → sampledAt t recording k .outcome ≡ outcome.Refused (Number n)
+    → turnAt (freshRide t) recording k ≡ record { ride = record { session = sampledAt t recording k .session; ended = n }; shown = shown.Refused n }
 unfolding turnAt turnOf toldOf
 turn-refuses t recording k n e = rw e
 
@@ -53,12 +54,12 @@ ride-reaches s t recording (suc k) (answered {t = u} a before e) =
     ap (λ (r : Ride). turnAt r recording k .ride) (ride-reaches s u recording k before) ∙ ap (λ (x : Turned). x .ride) (turn-answers u recording k a e)
 
 -- and what its next turn shows is that session's answer,
-pub ride-answers : (s t : Session) (recording : List ℕ) (k : ℕ) (a : Answer) → Reaches s recording k t → sampleAt t recording k .outcome ≡ outcome.Answered a
+pub ride-answers : (s t : Session) (recording : List ℕ) (k : ℕ) (a : Answer) → Reaches s recording k t → sampledAt t recording k .outcome ≡ outcome.Answered a
     → turnAt (rideAfter (freshRide s) recording k) recording k .shown ≡ shown.Answered a
 ride-answers s t recording k a before e = rw (ride-reaches s t recording k before, turn-answers t recording k a e)
 
 -- or the number of its refusal, which ends the ride and leaves the session as it is
-pub ride-refuses : (s t : Session) (recording : List ℕ) (k n : ℕ) → Reaches s recording k t → sampleAt t recording k .outcome ≡ outcome.Refused (Number n)
+pub ride-refuses : (s t : Session) (recording : List ℕ) (k n : ℕ) → Reaches s recording k t → sampledAt t recording k .outcome ≡ outcome.Refused (Number n)
     → (turnAt (rideAfter (freshRide s) recording k) recording k .shown ≡ shown.Refused n) × (rideAfter (freshRide s) recording (suc k) .ended ≡ n)
 ride-refuses s t recording k n before e =
     (rw (ride-reaches s t recording k before, turn-refuses t recording k n e), rw (after-suc, ride-reaches s t recording k before, turn-refuses t recording k n e))
@@ -83,12 +84,12 @@ ended-stays r recording k (suc j) e =
     ∙ ap (λ (q : Ride). turnAt q recording (k + j) .ride) (ended-stays r recording k j e) ∙ ended-turn (rideAfter r recording k) recording (k + j) e
 
 -- no refusal of a sample has the number 0
-pub refused-number : (s : Session) (pulses beacon buttons mode n : ℕ) → sampleOf s pulses beacon buttons mode .outcome ≡ outcome.Refused (Number n) → eqb n 0 ≡ false
+pub refused-number : (s : Session) (x : Sample) (n : ℕ) → sampleOf s x .outcome ≡ outcome.Refused (Number n) → eqb n 0 ≡ false
 unfolding sampleOf ranOf
-refused-number s pulses beacon buttons mode n h = cases (eqb (refusedBy s pulses beacon buttons mode) 0) refl h
+refused-number s x n h = cases (eqb (refusedBy s x) 0) refl h
   where
-    cases : (t : Bool) → eqb (refusedBy s pulses beacon buttons mode) 0 ≡ t
-        → pick t (ranOf (carried s pulses beacon buttons mode) s) (record { session = s; outcome = outcome.Refused (Number (refusedBy s pulses beacon buttons mode)) }) .outcome ≡ outcome.Refused (Number n)
+    cases : (t : Bool) → eqb (refusedBy s x) 0 ≡ t
+        → pick t (ranOf (carried s x) s) (record { session = s; outcome = outcome.Refused (Number (refusedBy s x)) }) .outcome ≡ outcome.Refused (Number n)
         → eqb n 0 ≡ false
     cases true e h = cc
-    cases false e h = let same : refusedBy s pulses beacon buttons mode ≡ n = cc in rw (← same) e
+    cases false e h = let same : refusedBy s x ≡ n = cc in rw (← same) e

@@ -6,6 +6,7 @@ use mathlib.Core.List.{List}
 use lib.Dec.{leb, eqb}
 use lib.ListN.{length}
 use Rattle.leaf.specs.Bytes.{byte, word, long}
+use Rattle.session.specs.declared.Sample.{Sample}
 
 -- whole samples behind the first six bytes
 abbrev pub samplesIn : List ℕ → ℕ
@@ -25,19 +26,18 @@ goodRecording recording =
 abbrev pub trainOf : List ℕ → ℕ
 trainOf recording = byte recording 5
 
--- ---- the sample that k samples stand before
+-- ---- its samples
 
+-- where the sample that k samples stand before begins
 abbrev pub placeOf : ℕ → ℕ
 placeOf k = 6 + 6 * k
 
-abbrev pub pulsesAt : List ℕ → ℕ → ℕ
-pulsesAt recording k = word recording (placeOf k)
-
-abbrev pub beaconAt : List ℕ → ℕ → ℕ
-beaconAt recording k = byte recording (placeOf k + 2)
-
-abbrev pub buttonsAt : List ℕ → ℕ → ℕ
-buttonsAt recording k = word recording (placeOf k + 3)
-
-abbrev pub modeAt : List ℕ → ℕ → ℕ
-modeAt recording k = byte recording (placeOf k + 5)
+-- "six bytes a sample (pulses 2, beacon, buttons 2, mode)": the sample that k samples stand before
+abbrev pub sampleAt : List ℕ → ℕ → Sample
+sampleAt recording k =
+    record {
+      pulses = word recording (placeOf k);
+      beacon = byte recording (placeOf k + 2);
+      buttons = word recording (placeOf k + 3);
+      mode = byte recording (placeOf k + 5);
+    }

@@ -7,11 +7,12 @@ use Rattle.leaf.specs.Answers.{Answer, refused}
 use Rattle.leaf.specs.declared.Refusal.{Refusal}
 use Rattle.leaf.specs.declared.Refusal.the-variants.{Number, At}
 use Rattle.card.specs.declared.Settings.{Settings}
+use Rattle.session.specs.declared.Sample.{Sample}
 use Rattle.session.specs.declared.Session.{Session}
 use Rattle.session.specs.declared.Outcome.{Outcome}
 use Rattle.session.specs.declared.Outcome.the-variants as outcome
 use Rattle.session.specs.Session.{openSession, sampleOf}
-use Rattle.rides.specs.Recording.{goodRecording, trainOf, pulsesAt, beaconAt, buttonsAt, modeAt}
+use Rattle.rides.specs.Recording.{goodRecording, trainOf, sampleAt}
 use Rattle.rides.specs.declared.ride.Ride.{Ride}
 use Rattle.rides.specs.declared.ride.Shown.the-variants as shown
 use Rattle.rides.specs.declared.ride.Turned.{Turned}
@@ -37,15 +38,14 @@ toldOf s (outcome.Answered a) = record { ride = record { session = s; ended = 0 
 toldOf s (outcome.Refused why) = record { ride = record { session = s; ended = numberOf why }; shown = shown.Refused (numberOf why) }
 
 -- what has ended stays as it is, and shows nothing more
-unfoldable pub turnOf : Ride → ℕ → ℕ → ℕ → ℕ → Turned
-turnOf r pulses beacon buttons mode =
-    pick (eqb (r .ended) 0)
-    (toldOf (sampleOf (r .session) pulses beacon buttons mode .session) (sampleOf (r .session) pulses beacon buttons mode .outcome))
+unfoldable pub turnOf : Ride → Sample → Turned
+turnOf r x =
+    pick (eqb (r .ended) 0) (toldOf (sampleOf (r .session) x .session) (sampleOf (r .session) x .outcome))
     (record { ride = r; shown = shown.Nothing })
 
 -- the turn of the sample that k samples of the recording stand before
 unfoldable pub turnAt : Ride → List ℕ → ℕ → Turned
-turnAt r recording k = turnOf r (pulsesAt recording k) (beaconAt recording k) (buttonsAt recording k) (modeAt recording k)
+turnAt r recording k = turnOf r (sampleAt recording k)
 
 -- the ride after its first k samples
 unfoldable pub rideAfter : Ride → List ℕ → ℕ → Ride

@@ -1,9 +1,11 @@
 // A recording: its length in four bytes, version 1, train type, and six bytes a sample.
 use leaf::byte_at;
 use leaf::long_at;
+use leaf::word_at;
+use session::Sample;
 ghost use mathlib.Core.Path.{_≡_};
 ghost use Prim.Native.Nat.{min};
-ghost use Rattle.rides.specs.Recording.{samplesIn, mostSamples, goodRecording};
+ghost use Rattle.rides.specs.Recording.{samplesIn, mostSamples, goodRecording, sampleAt};
 
 // The whole samples behind the first six bytes.
 fn whole_samples(recording: &[u8]) -> usize
@@ -29,4 +31,17 @@ pub fn is_good(recording: &[u8]) -> bool
     let n = whole_samples(recording);
     let version = byte_at(recording, 4);
     (stated == recording.len()) & (6 + 6 * n == recording.len()) & (n <= 10000) & (version == 1)
+}
+
+// The sample that k samples stand before. Past the recording's end a byte reads as 0.
+pub fn sample_at(recording: &[u8], k: u16) -> Sample
+    ensures { λ r. ⌜ r ≡ sampleAt (now (recording .entry)) k ⌝ }
+{
+    let at = 6 + 6 * (k as u32);
+    Sample {
+        pulses: word_at(recording, at),
+        beacon: byte_at(recording, at as usize + 2),
+        buttons: word_at(recording, at + 3),
+        mode: byte_at(recording, at as usize + 5),
+    }
 }

@@ -1,13 +1,14 @@
 // Running a ride: a session, and the samples of a recording one after the other, until one is refused.
 use crate::recording::is_good;
+use crate::recording::sample_at;
 use card::Settings;
 use leaf::Refusal;
 use leaf::byte_at;
-use leaf::word_at;
-use sample::step::Answer;
 use session::Opened;
 use session::Outcome;
+use session::Sample;
 use session::Session;
+use step::Answer;
 ghost use mathlib.Core.Path.{_≡_};
 ghost use Rattle.session.specs.Session.{openedOf};
 ghost use Rattle.rides.specs.Ride.{startRide, freshRide, numberOf, toldOf, turnOf, turnAt};
@@ -88,13 +89,13 @@ impl Ride {
     }
 
     // One more sample. A ride that has ended stays as it is.
-    pub fn turn(self, pulses: u16, beacon: u8, buttons: u16, mode: u8) -> Turned
-        ensures { λ r. ⌜ r ≡ turnOf self pulses beacon buttons mode ⌝ }
+    pub fn turn(self, x: Sample) -> Turned
+        ensures { λ r. ⌜ r ≡ turnOf self x ⌝ }
     {
         let going = self.ended == 0;
         if going {
             let session = self.session;
-            let sampled = session.sample(pulses, beacon, buttons, mode);
+            let sampled = session.sample(x);
             let next = sampled.session;
             let outcome = sampled.outcome;
             return told(next, outcome);
@@ -109,11 +110,6 @@ impl Ride {
     pub fn turn_at(self, recording: &[u8], k: u16) -> Turned
         ensures { λ r. ⌜ r ≡ turnAt self (now (recording .entry)) k ⌝ }
     {
-        let at = 6 + 6 * (k as u32);
-        let pulses = word_at(recording, at);
-        let beacon = byte_at(recording, at as usize + 2);
-        let buttons = word_at(recording, at + 3);
-        let mode = byte_at(recording, at as usize + 5);
-        self.turn(pulses, beacon, buttons, mode)
+        self.turn(sample_at(recording, k))
     }
 }

@@ -12,11 +12,12 @@ use Rattle.card.specs.declared.Settings.{Settings}
 use Rattle.card.specs.Ranges.{checkSettings}
 use Rattle.desk.specs.State.{freshDesk}
 use Rattle.desk.specs.Clock.{sameMode}
-use Rattle.sample.specs.declared.step.Sample.{Sample}
-use Rattle.sample.specs.declared.step.Stepped.{Stepped}
-use Rattle.sample.specs.Sample.{stepOf}
+use Rattle.step.specs.declared.Input.{Input}
+use Rattle.step.specs.declared.Stepped.{Stepped}
+use Rattle.step.specs.Step.{stepOf}
 use Rattle.session.specs.Types.{typeSpeed, typeAllowed}
 use Rattle.session.specs.Ranges.{deskInside}
+use Rattle.session.specs.declared.Sample.{Sample}
 use Rattle.session.specs.declared.Session.{Session}
 use Rattle.session.specs.declared.Opened.{Opened}
 use Rattle.session.specs.declared.Opened.the-variants as opened
@@ -64,33 +65,38 @@ inBts mode = eqb mode 2
 
 -- 8 "session out of its ranges", 9 "beacon, buttons or mode out of range", 10 "pulses × tick length above 100,000", 11 "mode changed in a
 -- sample with pulses"
-abbrev pub sampleChecks : Session → ℕ → ℕ → ℕ → ℕ → List Check
-sampleChecks s pulses beacon buttons mode =
+abbrev pub sampleChecks : Session → Sample → List Check
+sampleChecks s x =
     (8, insideOf s)
-    ∷ (9, leb beacon 11 && leb buttons 2047 && leb 1 mode && leb mode 2)
-    ∷ (10, leb (pulses * s .settings .tick) 100000)
-    ∷ (11, sameMode (s .desk .bts) (inBts mode) || standstill pulses)
+    ∷ (9, leb (x .beacon) 11 && leb (x .buttons) 2047 && leb 1 (x .mode) && leb (x .mode) 2)
+    ∷ (10, leb (x .pulses * s .settings .tick) 100000)
+    ∷ (11, sameMode (s .desk .bts) (inBts (x .mode)) || standstill (x .pulses))
     ∷ []
 
 -- the number of the refusal, 0 where the sample is accepted
-unfoldable pub refusedBy : Session → ℕ → ℕ → ℕ → ℕ → ℕ
-refusedBy s pulses beacon buttons mode = firstBad 0 (sampleChecks s pulses beacon buttons mode)
+unfoldable pub refusedBy : Session → Sample → ℕ
+refusedBy s x = firstBad 0 (sampleChecks s x)
 
--- "m = pulses × tick length is the speed in mm/s and the travel in tenths of a millimetre."
-abbrev pub carried : Session → ℕ → ℕ → ℕ → ℕ → Sample
-carried s pulses beacon buttons mode =
-    record { m = pulses * s .settings .tick; still = standstill pulses; beacon = beacon; buttons = buttons; bts = inBts mode }
+-- "m = pulses × tick length is the speed in mm/s and the travel in tenths of a millimetre.": what the desk takes of an accepted sample
+abbrev pub carried : Session → Sample → Input
+carried s x =
+    record {
+      m = x .pulses * s .settings .tick;
+      still = standstill (x .pulses);
+      beacon = x .beacon;
+      buttons = x .buttons;
+      bts = inBts (x .mode);
+    }
 
 -- "The session is handed in and handed back with each sample's answer."
 abbrev pub sampledAs : Session → Stepped → Sampled
 sampledAs s e =
     record { session = record { settings = s .settings; train = s .train; desk = e .desk }; outcome = outcome.Answered (e .answer) }
 
-unfoldable pub ranOf : Sample → Session → Sampled
+unfoldable pub ranOf : Input → Session → Sampled
 ranOf x s = sampledAs s (stepOf (s .settings) (typeSpeed (s .train) * 100) x (s .desk))
 
 -- "A refusal returns its number .. and leaves .. the handed-in session unchanged."
-unfoldable pub sampleOf : Session → ℕ → ℕ → ℕ → ℕ → Sampled
-sampleOf s pulses beacon buttons mode =
-    pick (eqb (refusedBy s pulses beacon buttons mode) 0) (ranOf (carried s pulses beacon buttons mode) s)
-    (record { session = s; outcome = outcome.Refused (Number (refusedBy s pulses beacon buttons mode)) })
+unfoldable pub sampleOf : Session → Sample → Sampled
+sampleOf s x =
+    pick (eqb (refusedBy s x) 0) (ranOf (carried s x) s) (record { session = s; outcome = outcome.Refused (Number (refusedBy s x)) })

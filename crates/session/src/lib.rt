@@ -12,13 +12,21 @@ use desk::state::Desk;
 use leaf::Refusal;
 use leaf::or_fault;
 use ranges::desk_inside;
-use sample::step::Answer;
-use sample::step::Sample;
-use sample::step::step;
+use step::Answer;
+use step::Input;
+use step::step;
 ghost use mathlib.Core.Path.{_≡_};
 ghost use Prim.Native.Nat.{_*_};
 ghost use Rattle.session.specs.Types.{typeSpeed, typeAllowed};
 ghost use Rattle.session.specs.Session.{freshSession, openedOf, openSession, insideOf, standstill, refusedBy, ranOf, sampleOf};
+
+// What comes every 100 ms: odometer pulses, the beacon's code, the buttons newly pressed, the mode.
+pub struct Sample {
+    pub pulses: u16,
+    pub beacon: u8,
+    pub buttons: u16,
+    pub mode: u8,
+}
 
 pub struct Session {
     pub settings: Settings,
@@ -115,24 +123,24 @@ impl Session {
     }
 
     // The number that refuses the sample, 0 where it is accepted.
-    fn refusal(self, pulses: u16, beacon: u8, buttons: u16, mode: u8) -> u8
-        ensures { λ r. ⌜ r ≡ refusedBy self pulses beacon buttons mode ⌝ }
+    fn refusal(self, x: Sample) -> u8
+        ensures { λ r. ⌜ r ≡ refusedBy self x ⌝ }
     {
         let settings = self.settings;
         let desk = self.desk;
         let inside = self.is_inside();
-        let m = leaf::travel(pulses, settings.tick);
-        let bts = mode == 2;
+        let m = leaf::travel(x.pulses, settings.tick);
+        let bts = x.mode == 2;
         let same = (desk.bts & bts) | (!desk.bts & !bts);
-        let fields = (beacon <= 11) & (buttons <= 2047) & (1 <= mode) & (mode <= 2);
+        let fields = (x.beacon <= 11) & (x.buttons <= 2047) & (1 <= x.mode) & (x.mode <= 2);
         let n = or_fault(0, 8, inside);
         let n = or_fault(n, 9, fields);
         let n = or_fault(n, 10, m <= 100000);
-        or_fault(n, 11, same | is_standing(pulses))
+        or_fault(n, 11, same | is_standing(x.pulses))
     }
 
     // The sample is run: the session after it, and its answer.
-    fn run(self, x: Sample) -> Sampled
+    fn run(self, x: Input) -> Sampled
         ensures { λ r. ⌜ r ≡ ranOf x self ⌝ }
     {
         let settings = self.settings;
@@ -152,21 +160,21 @@ impl Session {
     }
 
     // One sample every 100 ms: pulses, beacon 0..11, buttons newly pressed, mode 1 CONV or 2 BTS.
-    pub fn sample(self, pulses: u16, beacon: u8, buttons: u16, mode: u8) -> Sampled
-        ensures { λ r. ⌜ r ≡ sampleOf self pulses beacon buttons mode ⌝ }
+    pub fn sample(self, x: Sample) -> Sampled
+        ensures { λ r. ⌜ r ≡ sampleOf self x ⌝ }
     {
         let settings = self.settings;
-        let number = self.refusal(pulses, beacon, buttons, mode);
+        let number = self.refusal(x);
         let accepted = number == 0;
-        let x = Sample {
-            m: leaf::travel(pulses, settings.tick),
-            still: is_standing(pulses),
-            beacon: beacon,
-            buttons: buttons,
-            bts: mode == 2,
+        let carried = Input {
+            m: leaf::travel(x.pulses, settings.tick),
+            still: is_standing(x.pulses),
+            beacon: x.beacon,
+            buttons: x.buttons,
+            bts: x.mode == 2,
         };
         if accepted {
-            self.run(x)
+            self.run(carried)
         } else {
             Sampled {
                 session: self,

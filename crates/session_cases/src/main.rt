@@ -21,6 +21,7 @@ use notation::Samples;
 use notation::outcome;
 use notation::refusal;
 use session::Opened;
+use session::Sample;
 use session::Session;
 use shell::say;
 
@@ -50,7 +51,12 @@ fn after_first(mut session: Session, x: Samples) -> Session {
     let tick = choose16(x.tick == 0, session.settings.tick, x.tick);
     let mode = choose16(x.mode == 0, 1, x.mode);
     session.settings.tick = tick;
-    let sampled = session.sample(x.pulses, low(x.beacon), x.buttons, low(mode));
+    let sampled = session.sample(Sample {
+        pulses: x.pulses,
+        beacon: low(x.beacon),
+        buttons: x.buttons,
+        mode: low(mode),
+    });
     if x.shown {
         let given = sampled.outcome;
         outcome(older(x.n), given);

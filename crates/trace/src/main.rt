@@ -2,5 +2,5 @@
 use printed::Columns;
 
 fn main() {
-    ride_shell::main_with(Columns::Six, b"usage: trace CARD < RECORDING\n");
+    ride_shell::main_with(Columns::Whole, b"usage: trace CARD < RECORDING\n");
 }

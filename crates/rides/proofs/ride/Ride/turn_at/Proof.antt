@@ -3,13 +3,15 @@ use Rattle.rides.proofs.ride.Ride.turn_at.Statement.{statement}
 use Rattle.rides.proofs.ride.Ride.turn_at.Tie as tie
 use Rattle.rides.specs.Ride.{turnAt}
 
+sample-at-requires : tie.Need-sample-at-requires
+sample-at-requires c κs = search needs
+
+turn-requires : tie.Need-turn-requires
+turn-requires c κs = search needs
+
 returns : tie.Need-returns
 unfolding turnAt
-returns c = simp (c .turn .ensures, c .before .byte-at2 .ensures, c .before .before .word-at2 .ensures, c .before .before .before .byte-at .ensures, c .before .before .before .before .word-at .ensures)
+returns c = simp (c .turn .ensures, c .before .sample-at .ensures)
 
 pub turn-at-spec : {M : Type 1} → statement M
-turn-at-spec =
-    tie.close
-    (tie.spec (λ c. search needs) (λ c. search needs) (λ c κs. search needs) (λ c. search needs) (λ c. search needs)
-    (λ c κs. search needs) (λ c. search needs) (λ c κs. search needs) (λ c. search needs) (λ c. search needs)
-    (λ c κs. search needs) (λ c κs. search needs) returns)
+turn-at-spec = tie.close (tie.spec sample-at-requires turn-requires returns)

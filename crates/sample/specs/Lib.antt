@@ -1,3 +1,0 @@
-pub mod Speed
-pub mod Brake
-pub mod Sample

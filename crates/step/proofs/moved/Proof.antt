@@ -1,0 +1,60 @@
+use borrow.Author.Needs.{needs}
+use Prim.Native.Nat.{ℕ}
+use mathlib.Core.Path.{_≡_, refl, sym, _∙_}
+use mathlib.Core.Bool.{Bool, true, false, _&&_, _||_, not}
+use lib.Dec.{eqb}
+use borrow.Author.Tests.{eqb-true}
+use Rattle.leaf.specs.Choosing.{pick, and-split}
+use Rattle.card.specs.declared.Settings.{Settings}
+use Rattle.desk.specs.declared.state.Desk.{Desk}
+use Rattle.desk.specs.declared.clock.Turn.{Turn}
+use Rattle.desk.specs.State.{withCode}
+use Rattle.desk.specs.Clock.{begun}
+use Rattle.buttons.specs.Buttons.{pressesOf}
+use Rattle.beacons.specs.Beacons.{isBeacon, isSide, readsOf, readIf, beaconTaken}
+use Rattle.step.proofs.moved.Statement.{statement}
+use Rattle.step.proofs.moved.Tie as tie
+use Rattle.step.specs.Brake.{lowest}
+use Rattle.step.specs.Step.{functionOn, movedOf}
+use Rattle.step.specs.declared.Input.{Input}
+
+-- ---- no button, and the code of the sample before: the desk goes on as it is
+
+reads-nothing : (code : ℕ) (f3 bts : Bool) (last : ℕ) → eqb code last ≡ true → readsOf code f3 bts last ≡ false
+unfolding readsOf
+reads-nothing code f3 bts last e = rw e (cases (isBeacon code))
+  where
+    cases : (b : Bool) → (b && not true && (not bts || isSide code && f3)) ≡ false
+    cases true = refl
+    cases false = refl
+
+code-again : (code : ℕ) (f0 f1 f3 : Bool) (d : Desk) → eqb code (d .code) ≡ true → beaconTaken code f0 f1 f3 d ≡ record { desk = d; cause = 0 }
+unfolding beaconTaken readIf
+code-again code f0 f1 f3 d e = rw (reads-nothing code f3 (d .bts) (d .code) e, eqb-true code (d .code) e)
+
+lowest-alone : (cause : ℕ) → lowest cause 0 ≡ cause
+unfolding lowest
+lowest-alone cause = cases (eqb cause 0) refl
+  where
+    cases : (t : Bool) → eqb cause 0 ≡ t → pick t 0 cause ≡ cause
+    cases true e = sym (eqb-true cause 0 e)
+    cases false e = refl
+
+goes-on : (s : Settings) (top : ℕ) (x : Input) (d : Desk) (first : Turn) → first ≡ begun (x .bts) (x .m) (functionOn s 4) (s .x) (s .y) d
+    → (eqb (x .buttons) 0 && eqb (x .beacon) (first .desk .code)) ≡ true → first ≡ movedOf s top x d
+unfolding movedOf pressesOf
+goes-on s top x d first is h =
+    let p = and-split (eqb (x .buttons) 0) (eqb (x .beacon) (first .desk .code)) h in
+    rw (← is, p .0, code-again (x .beacon) (functionOn s 1) (functionOn s 2) (functionOn s 8) (first .desk) (p .1), lowest-alone (first .cause))
+
+returns : tie.Need-returns
+returns c = goes-on _ _ _ _ _ (c .before .before .before .before .before .begin .ensures) (c .if1 .taken)
+
+returns-2 : tie.Need-returns-2
+unfolding movedOf
+returns-2 c = simp (c .lowest .ensures, c .before .before .take-beacon .ensures, c .before .before .before .take-buttons .ensures, c .before .before .before .before .before .before .before .before .before .begin .ensures)
+
+pub moved-spec : {M : Type 1} → statement M
+moved-spec =
+    tie.close
+    (tie.spec (λ c κs. search needs) returns (λ c κs. search needs) (λ c κs. search needs) (λ c κs. search needs) returns-2)

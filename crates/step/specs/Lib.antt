@@ -1,0 +1,3 @@
+pub mod Speed
+pub mod Brake
+pub mod Step

@@ -1,0 +1,71 @@
+// The last step of a sample: the brake; and the lamps.
+use desk::state::Desk;
+ghost use mathlib.Core.Path.{_≡_};
+ghost use Rattle.step.specs.Brake.{lowest, standingCause, braked, lampIf, windowLamps, controlLamps, lampsOf};
+
+// The lower of two causes, 0 being none.
+pub fn lowest(a: u8, b: u8) -> u8
+    ensures { λ r. ⌜ r ≡ lowest a b ⌝ }
+{
+    leaf::choose8(a == 0, b, leaf::choose8(b == 0, a, leaf::least8(a, b)))
+}
+
+// The cause that stands after a sample in which `arose` is the lowest that arose (0: none).
+fn standing_cause(before: u8, arose: u8, rearm: bool) -> u8
+    ensures { λ r. ⌜ r ≡ standingCause before arose rearm ⌝ }
+{
+    let kept = leaf::choose8(rearm, 0, before);
+    let first = leaf::choose8(before == 0, arose, before);
+    leaf::choose8(arose == 0, kept, first)
+}
+
+fn lamp_if(lit: bool, weight: u16) -> u16
+    ensures { λ r. ⌜ r ≡ lampIf lit weight ⌝ }
+{
+    leaf::choose16(lit, weight, 0)
+}
+
+// The brake's step: rearm says that a standstill sample carries it.
+pub fn put_brake(d: Desk, arose: u8, rearm: bool) -> Desk
+    ensures { λ r. ⌜ r ≡ braked arose rearm d ⌝ }
+{
+    d.with_cause(standing_cause(d.cause, arose, rearm))
+}
+
+// What the windows and beacon 3's option wait for.
+fn window_lamps(d: Desk) -> u16
+    ensures { λ r. ⌜ r ≡ windowLamps d ⌝ }
+{
+    let window = d.window;
+    let side = d.side;
+    let option = d.option;
+    leaf::either(
+        window.waits_for(),
+        leaf::either(side.waits_for(), lamp_if(option.on, 32)),
+    )
+}
+
+// Override armed or reminded, increase for stop, and rearm.
+fn control_lamps(d: Desk, still: bool) -> u16
+    ensures { λ r. ⌜ r ≡ controlLamps still d ⌝ }
+{
+    let main = d.main;
+    let armed = d.armed;
+    let reminder = d.reminder;
+    let reminded = reminder.is_lit();
+    let stop = main.increase_lit();
+    leaf::either(
+        lamp_if(armed.armed | reminded, 128),
+        leaf::either(lamp_if(stop, 256), lamp_if(still & !(d.cause == 0), 1024)),
+    )
+}
+
+// All lamps; `removable` says that the limit may go.
+pub fn lamps_of(d: Desk, removable: bool, still: bool) -> u16
+    ensures { λ r. ⌜ r ≡ lampsOf removable still d ⌝ }
+{
+    leaf::either(
+        window_lamps(d),
+        leaf::either(lamp_if(removable, 64), control_lamps(d, still)),
+    )
+}

@@ -1,0 +1,114 @@
+// One sample of the desk: the supervised speed, the brake, the lamps, and all steps in document 01's order, with the
+// answer. Total on every value: it knows no refusal, and takes T and the settings as values.
+pub mod brake;
+pub mod speed;
+
+use beacons::take_beacon;
+use brake::lamps_of;
+use brake::lowest;
+use brake::put_brake;
+use buttons::take_buttons;
+use card::Settings;
+use desk::clock::Turn;
+use desk::clock::begin;
+use desk::state::Desk;
+use speed::supervised;
+use speed::too_fast;
+use speed::turn_crossing;
+ghost use mathlib.Core.Path.{_≡_};
+ghost use Rattle.step.specs.Step.{movedOf, judgedOf, answerOf, stepOf};
+
+// What the desk takes of an accepted sample: speed and travel, standstill, beacon code, buttons, and the mode.
+pub struct Input {
+    pub m: u32,
+    pub still: bool,
+    pub beacon: u8,
+    pub buttons: u16,
+    pub bts: bool,
+}
+
+// S, lamps, standing cause (0 none), crossing icon (0, 1 protected, 2 unprotected), limit standing or not.
+pub struct Answer {
+    pub speed: u32,
+    pub lamps: u16,
+    pub cause: u8,
+    pub icon: u8,
+    pub limit: bool,
+}
+
+// The next desk, the lowest cause that arose in the sample (0 none), and the answer.
+pub struct Stepped {
+    pub desk: Desk,
+    pub arose: u8,
+    pub answer: Answer,
+}
+
+// Mode, ages and misses, buttons, beacon.
+fn moved(d: Desk, settings: Settings, top: u32, x: Input) -> Turn
+    ensures { λ r. ⌜ r ≡ movedOf settings top x d ⌝ }
+{
+    let f = settings.functions;
+    let row = settings.limit;
+    let begun = begin(d, x.bts, x.m, f / 4 % 2 == 1, settings.x, settings.y);
+    let aged = begun.desk;
+    // no press, and the code of the sample before: there is nothing to take
+    let quiet = (x.buttons == 0) & (x.beacon == aged.code);
+    if quiet {
+        return begun;
+    }
+    let pressed = take_buttons(aged, x.buttons, x.m, row, top);
+    let read = take_beacon(
+        pressed,
+        x.beacon,
+        f / 1 % 2 == 1,
+        f / 2 % 2 == 1,
+        f / 8 % 2 == 1,
+    );
+    let after = read.desk;
+    Turn {
+        desk: after,
+        cause: lowest(begun.cause, read.cause),
+    }
+}
+
+fn answer_at(d: Desk, settings: Settings, top: u32, x: Input, speed: u32) -> Answer
+    ensures { λ r. ⌜ r ≡ answerOf settings top x speed d ⌝ }
+{
+    let crossing = d.crossing;
+    let limit = d.limit;
+    let row = settings.limit;
+    let removable = limit.is_removable(x.m, row.last, top);
+    Answer {
+        speed: speed,
+        lamps: lamps_of(d, removable, x.still),
+        cause: d.cause,
+        icon: crossing.icon(),
+        limit: limit.on,
+    }
+}
+
+// Speed and brake, over what the steps before made.
+fn judged(d: Desk, settings: Settings, top: u32, x: Input, cause: u8) -> Stepped
+    ensures { λ r. ⌜ r ≡ judgedOf settings top x cause d ⌝ }
+{
+    let turned = turn_crossing(d, x.m);
+    let speed = supervised(turned, settings, top);
+    let fast = leaf::choose8(too_fast(x.m, speed), 5, 0);
+    let arose = lowest(cause, fast);
+    let rearm = x.still & (x.buttons / 1024 % 2 == 1);
+    let braked = put_brake(turned, arose, rearm);
+    Stepped {
+        desk: braked,
+        arose: arose,
+        answer: answer_at(braked, settings, top, x, speed),
+    }
+}
+
+// One sample; `top` is T in hundredths of km/h.
+pub fn step(d: Desk, settings: Settings, top: u32, x: Input) -> Stepped
+    ensures { λ r. ⌜ r ≡ stepOf settings top x d ⌝ }
+{
+    let turn = moved(d, settings, top, x);
+    let after = turn.desk;
+    judged(after, settings, top, x, turn.cause)
+}
