@@ -2,6 +2,7 @@
 
 import subprocess
 import sys
+import tempfile
 import textwrap
 
 import ask
@@ -47,6 +48,11 @@ def look_at(name):
 
 def make(name):
     """Makes the bytes of a ride: the files of its card and its recording."""
+    try:
+        lessons.FOLDER.mkdir(parents=True, exist_ok=True)
+        tempfile.TemporaryFile(dir=lessons.FOLDER).close()
+    except OSError as error:
+        raise plain.Ends(f"cannot write to {lessons.FOLDER}: {plain.reason(error)}") from None
     made = subprocess.run([desk.ROOT / "lessons" / "make", name, lessons.FOLDER], stdout=subprocess.PIPE, text=True, check=False)
     if made.returncode != 0:
         raise plain.Ends

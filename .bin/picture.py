@@ -271,7 +271,7 @@ class Picture:
         if not is_named:
             labels = placed([(x, number) for x, _, number in found], 3)
         shown = [label.row for label in labels if label.row is not None]
-        chart = top + LINE * (max(shown) + 1) + 8
+        chart = top + LINE * (max(shown, default=0) + 1) + 8
         is_dense = len(found) > 60
         self.drawing.text(LEFT - 10, chart - 8, "beacons", "right")
         for label in labels:
@@ -397,7 +397,7 @@ class Picture:
             self.drawing.text(label.start + 3, foot, label.words)
         self.legend += [("brake", "brake on" + counted(len(shown), len(found))), ("braked", "the same, behind the speeds")]
         self.legend += [(None, f"cause {cause}: {desk.CAUSES[cause]}") for cause in sorted(set(causes) - {0})]
-        return top + LANE + LINE * (max(label.row for label in shown) + 1) + 2
+        return top + LANE + LINE * (max((label.row for label in shown), default=0) + 1) + 2
 
     def buttons(self, top):
         """A row for each button that is lit or pressed: bars are its lamp, marks its presses."""

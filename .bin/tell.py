@@ -135,4 +135,5 @@ def main(arguments):
     return 0 if ride.refusal is None else 1
 
 
-plain.run("tell", USAGE, main, sys.argv[1:])
+if __name__ == "__main__":
+    plain.run("tell", USAGE, main, sys.argv[1:])

@@ -1,5 +1,6 @@
 """unhex.py [DUMP [FILE]]: makes bytes of a hex dump, and says what it took."""
 
+import os
 import re
 import sys
 
@@ -116,6 +117,8 @@ def main(arguments):
         raise plain.Usage
     source, target = (arguments + ["-", None][len(arguments):])
     made, form = made_of(plain.standard_input("dump", USAGE) if source == "-" else plain.file_bytes(source))
+    if target is None and os.isatty(1):
+        raise plain.Ends("these bytes are not for a terminal; name a file: bench/unhex DUMP FILE")
     if target is None:
         plain.say(made)
     else:
