@@ -131,11 +131,15 @@ class Ride:
         """Each accepted sample with its answer."""
         return list(zip(self.samples, self.answers))
 
+    def passes(self, i):
+        """The beacon that the train comes to at sample i (from 0), 0 if none: its code differs from that of the sample before."""
+        beacon, before = self.samples[i].beacon, self.samples[i - 1].beacon if i else 0
+        return beacon if beacon != before else 0
+
     def reads(self, i):
-        """The beacon that accepted sample i (from 0) reads, 0 if none: its code differs from that of the sample before."""
-        now, before = self.samples[i], self.samples[i - 1].beacon if i else 0
-        heard = now.mode == 1 or bool(self.card.functions & 8) and now.beacon in (4, 9, 10, 11)
-        return now.beacon if now.beacon != before and heard else 0
+        """Is a beacon to which the train comes at sample i read? In BTS only function 3 reads some."""
+        now = self.samples[i]
+        return now.mode == 1 or bool(self.card.functions & 8) and now.beacon in (4, 9, 10, 11)
 
     def why(self):
         """The refusal in words."""

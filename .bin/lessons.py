@@ -40,10 +40,10 @@ class Page:
 
     def look_at(self):
         """The table of what to look at: the samples and the words of each row."""
-        for line in self.body.splitlines():
-            cells = [cell.strip() for cell in line.strip("|").split("|")]
-            if line.startswith("|") and cells[0] != "n" and not set(cells[0]) <= set("-: "):
-                yield cells[0], " | ".join(cells[1:])
+        table = re.search(r"(?m)^\| *n *\|.*\n\|.*\n((?:\|.*\n)*)", self.body)
+        for row in table[1].splitlines() if table else []:
+            n, words = (cell.strip() for cell in row.strip("| ").split("|", 1))
+            yield n, words
 
     def variant(self, suffix):
         """What is said of a variant: the entry of the list that names its file."""

@@ -56,8 +56,9 @@ def driven(ride, i, sample, last):
         yield "moves" if sample.pulses else "stands"
     if sample.buttons:
         yield f"press: {listed(desk.names(sample.buttons))}"
-    if sample.beacon and sample.beacon != last.beacon:
-        said = f"beacon {sample.beacon}, {desk.BEACONS[sample.beacon]}"
+    beacon = ride.passes(i)
+    if beacon:
+        said = f"beacon {beacon}, {desk.BEACONS[beacon]}"
         yield said if ride.reads(i) else f"{said}, not read in {desk.MODES[sample.mode]}"
 
 
