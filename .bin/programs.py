@@ -62,46 +62,55 @@ def why_unreadable(name):
     return b""
 
 
-def pass_on(name, arguments, stdin=None, beside=None):
-    """Runs a program and passes each of its lines on as soon as it is whole, with what is to stand beside it. Answers what was
-    heard."""
+def pass_on(name, arguments, stdin=None):
+    """Runs a program and passes each of its lines on as soon as it is whole. Answers what was heard. Where the output is lost the
+    program has nothing left to do."""
     heard = Heard()
     with subprocess.Popen(command(name) + arguments, stdin=stdin, stdout=subprocess.PIPE, stderr=subprocess.PIPE,
                           close_fds=False) as program:  # an argument may be /dev/fd/63
-        with selectors.DefaultSelector() as sources:
-            sources.register(program.stdout, selectors.EVENT_READ, bytearray())
-            sources.register(program.stderr, selectors.EVENT_READ, bytearray())
-            while sources.get_map():
-                for source, _ in sources.select():
-                    take(source, sources, heard, source.fileobj is program.stderr, beside)
+        try:
+            pass_lines(program, heard)
+        except (plain.Ends, plain.Enough):
+            program.kill()
+            raise
     if program.returncode != 0:
         raise plain.Ends(f"the program ended with status {program.returncode}")
     return heard
 
 
-def take(source, sources, heard, is_error, beside):
-    """What a source has now: its whole lines go on, and what follows the last of them stays until its line is whole."""
+def pass_lines(program, heard):
+    """Passes on what a program writes, until both its outputs have ended."""
+    with selectors.DefaultSelector() as sources:
+        for output in (program.stdout, program.stderr):
+            sources.register(output, selectors.EVENT_READ, bytearray())
+        while sources.get_map():
+            for source, _ in sources.select():
+                lines = take(source)
+                if lines is None:
+                    sources.unregister(source.fileobj)
+                    lines = lines_of(source.data)
+                if source.fileobj is program.stdout:
+                    plain.say(b"".join(line + b"\n" for line in lines if heard.line(line)))
+                else:
+                    for line in lines:
+                        heard.complaint(line)
+
+
+def take(source):
+    """The lines that are whole now; what follows the last of them waits in the source's data. None where the source has ended."""
     chunk = os.read(source.fd, CHUNK)
-    rest = source.data
-    rest += chunk
     if not chunk:
-        sources.unregister(source.fileobj)
-        end = len(rest)
-    else:
-        end = rest.rfind(b"\n") + 1
-    lines = lines_of(bytes(rest[:end]))
-    del rest[:end]
-    if is_error:
-        for line in lines:
-            heard.complaint(line)
-    else:
-        passed = [line for line in lines if heard.line(line)]
-        plain.say(b"".join(line + (beside(line) if beside else b"") + b"\n" for line in passed))
+        return None
+    source.data.extend(chunk)
+    end = source.data.rfind(b"\n") + 1
+    lines = lines_of(source.data[:end])
+    del source.data[:end]
+    return lines
 
 
 def lines_of(data):
     """The lines of a text, the last of them with an end or without."""
-    return data.removesuffix(b"\n").split(b"\n") if data else []
+    return bytes(data).removesuffix(b"\n").split(b"\n") if data else []
 
 
 def answer(name, arguments, given):
