@@ -65,24 +65,24 @@ def hold_descriptors():
             os.open(os.devnull, flags)
 
 
+def check_input(what, usage=None):
+    """Is there a standard input to read? With a usage it must be a file or a pipe: nobody types those bytes."""
+    try:
+        os.read(0, 0)
+    except OSError as error:
+        raise Ends(f"cannot read {what} on standard input: {reason(error)}") from None
+    if usage and os.isatty(0):
+        raise Ends(f"no {what} on standard input; {first_line(usage)}")
+
+
 def standard_input(what, usage, most=-1):
-    """The bytes on standard input, or the first so many of them. There must be a file or a pipe."""
+    """The bytes on standard input, or the first so many of them."""
     check_input(what, usage)
     try:
         with os.fdopen(0, "rb", closefd=False) as source:
             return source.read(most)
     except OSError as error:
         raise Ends(f"cannot read {what} on standard input: {reason(error)}") from None
-
-
-def check_input(what, usage):
-    """Is there a standard input to read, other than the keyboard?"""
-    try:
-        os.read(0, 0)
-    except OSError as error:
-        raise Ends(f"cannot read {what} on standard input: {reason(error)}") from None
-    if os.isatty(0):
-        raise Ends(f"no {what} on standard input; {first_line(usage)}")
 
 
 def file_bytes(name, most=-1):

@@ -75,6 +75,7 @@ def main(arguments):
         raise plain.Usage
     if arguments[1:]:
         return say_tones(arguments[0], arguments[1:])
+    plain.check_input("tones")
     return programs.pass_on("show_tones", arguments).status()
 
 
