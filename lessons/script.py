@@ -216,8 +216,8 @@ def ramp(path, number, words, card):
     while (start - end) * step < 0:
         speeds.append(pulses(path, number, card, start) if in_kmh else start)
         start += step
-        if len(speeds) > 65535:
-            stop(path, number, "this ramp has too many speeds")
+        if len(speeds) * hold > 65535:
+            stop(path, number, "this ramp has more than 65535 samples")
     if not speeds:
         stop(path, number, "this ramp has no speeds")
     return [p for p in speeds for _ in range(hold)], held[1:]
@@ -380,16 +380,7 @@ def rides(names):
     return found
 
 
-# ---- bytes
-
-def head_bytes(kind, samples):
-    return (6 + 6 * len(samples)).to_bytes(4, "big") + bytes([1, kind])
-
-
-def sample_bytes(sample):
-    p, beacon, mask, mode = sample
-    return p.to_bytes(2, "big") + bytes([beacon]) + mask.to_bytes(2, "big") + bytes([mode])
-
+# ---- in words
 
 def said(sample):
     """A sample in words."""
