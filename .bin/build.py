@@ -64,8 +64,8 @@ def main(name):
         for line in check.stdout:
             said.append(line)
             proved = PROVED.match(line)
-            if proved:
-                done += 1
+            done += bool(proved)
+            if proved and "unchanged" not in proved[1]:
                 print(f"{name}: {done} of {every}: {proved[1]}", flush=True)
     if check.returncode != 0:
         print(*said, f"{name}: not proved, so there is nothing to run", sep="")
