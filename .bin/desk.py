@@ -12,7 +12,9 @@ import programs
 ROOT = pathlib.Path(__file__).resolve().parent.parent
 sys.path.insert(0, str(ROOT / "lessons"))
 
-from script import BUTTONS  # noqa: E402
+import script  # noqa: E402
+
+BUTTONS = script.BUTTONS
 
 BEACONS = [
     None, "announcement", "conditional clear", "clear", "protected crossing", "preannouncement", "caution", "before-stop", "stop",
@@ -24,8 +26,7 @@ CAUSES = [
 ICONS = ["none", "protected", "unprotected"]
 MODES = {1: "CONV", 2: "BTS"}
 
-# T of the train types 1..8, in km/h.
-TYPES = [None, 80, 90, 100, 120, 140, 160, 180, 200]
+TYPES = [None, *script.TYPES]  # T in km/h
 
 # Document 01's table.
 REFUSALS = {

@@ -4,12 +4,12 @@ import re
 
 import desk
 import plain
+import script
 
 
 def rides():
     """The folder of each ride, by the ride's name; a lesson's variants follow it."""
-    found = sorted((path.parent, path.stem[len("ride"):]) for path in (desk.ROOT / "lessons").glob("*/ride*.txt"))
-    return {folder.name + variant: folder for folder, variant in found}
+    return {name: folder for folder, name in sorted((path.parent, name) for name, path, _ in script.lessons())}
 
 
 def named(word):

@@ -289,8 +289,10 @@ class Picture:
         return y + 16
 
 
-def without_answers(ride, title):
-    """The drawing of a ride that has no sample to draw."""
+def drawn(ride, title, over_distance):
+    """The drawing of a ride; one without answers has no more than its title and its refusal."""
+    if ride.answers:
+        return Picture(ride, title, over_distance).svg()
     drawing = Drawing()
     words = "A ride without samples." if ride.refusal is None else f"Refused {ride.refusal}: {ride.why()}."
     drawing.title(40, 40, title)
@@ -328,7 +330,7 @@ def main(arguments):
     card, title, over_distance = options(arguments)
     title = title or given_title() or "A ride"
     ride = desk.given_ride(card, USAGE)
-    plain.say(Picture(ride, title, over_distance).svg() if ride.answers else without_answers(ride, title))
+    plain.say(drawn(ride, title, over_distance))
     if ride.refusal is not None:
         desk.say_refusal(ride.refusal, len(ride.answers))
     return 0 if ride.refusal is None else 1

@@ -1,5 +1,6 @@
 """Runs the proved programs. They have no status; what they write decides it."""
 
+import functools
 import os
 import pathlib
 import selectors
@@ -11,6 +12,7 @@ BIN = pathlib.Path(__file__).resolve().parent
 CHUNK = 65536
 
 
+@functools.lru_cache
 def command(name):
     """The words that run a program, built where it is not."""
     built = subprocess.run([BIN / "built", name], stdin=subprocess.DEVNULL, stdout=subprocess.PIPE, check=False)
