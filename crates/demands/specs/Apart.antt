@@ -26,7 +26,6 @@ use Rattle.step.specs.Speed.{mainSpeed, supervisedOf, crossingTurned}
 use Rattle.step.specs.Brake.{braked}
 use Rattle.step.specs.Step.{functionOn, movedOf, answerOf, judgedOf, stepOf}
 use Rattle.demands.specs.Speaks.{same}
-use Rattle.demands.specs.Kept.{calm, stays-calm, Kept, begin, presses, beacon}
 
 -- settings with other functions, X and Y
 abbrev pub later : Settings → ℕ → ℕ → ℕ → Settings

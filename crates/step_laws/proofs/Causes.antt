@@ -1,8 +1,6 @@
--- Document 01, "Controls": "Any cause puts the brake on; the first stands, lowest number within a sample." Up to the brake no step of a sample
--- touches the cause that stands; and what arises in a sample is one of the causes 1..5, or 0, none.
+-- What arises in a sample is one of the causes 1..5, or 0, none.
 use Prim.Native.Nat.{ℕ, _+_, _≤_, min}
 use native.Mathlib.Omega.{arith}
-use mathlib.Core.Path.{_≡_, refl}
 use mathlib.Core.Bool.{Bool, _&&_, not}
 use lib.Dec.{eqb}
 use Rattle.leaf.specs.Numbers.{exceedsOf}
@@ -11,60 +9,16 @@ use Rattle.signals.specs.Windows.{missedOf}
 use Rattle.signals.specs.Stop.{reminderMissed}
 use Rattle.desk.specs.declared.state.Desk.{Desk}
 use Rattle.desk.specs.declared.clock.Turn.{Turn}
-use Rattle.desk.specs.State.{takenOver, crossingSet, limitNow, modeChanged}
-use Rattle.desk.specs.Clock.{sameMode, deskOlder, reminded, missCause, advanced, begun}
-use Rattle.buttons.specs.Buttons.{optionUsed, limitRemoved, reminderAnswered, overrideArmed, stopIncreased, limitStepped, hidePressed}
-use Rattle.beacons.specs.Beacons.{readsOf, mainOpened, sideOpened, optionOffered, reading4, stopped, beaconTaken}
+use Rattle.desk.specs.State.{modeChanged}
+use Rattle.desk.specs.Clock.{sameMode, deskOlder, missCause, advanced, begun}
+use Rattle.beacons.specs.Beacons.{readsOf, beaconTaken}
 use Rattle.step.specs.declared.Input.{Input}
 use Rattle.step.specs.Speed.{crossingTurned, supervisedOf}
 use Rattle.step.specs.Step.{movedOf, judgedOf, stepOf}
 use Rattle.step.specs.Brake.{lowest}
-use Rattle.laws.specs.Walk.{Kept, moved-keeps}
-use Rattle.laws.specs.Parts.{pick-has, pick-low}
+use Rattle.step_laws.proofs.Choosing.{pick-has, pick-low}
 
--- a desk on which this cause stands
-abbrev Has : ℕ → Desk → Type 0
-Has cause d = d .cause ≡ cause
-
-mode-has : (cause : ℕ) (bts : Bool) (d : Desk) → Has cause d → Has cause (modeChanged bts d)
-unfolding modeChanged
-mode-has cause bts d h = h
-
-cause-kept : (cause : ℕ) → Kept (Has cause) (λ (age distance : ℕ). Unit {0})
-unfolding deskOlder reminded takenOver crossingSet limitNow stopped reading4 mainOpened sideOpened optionOffered optionUsed limitRemoved reminderAnswered overrideArmed stopIncreased limitStepped hidePressed
-cause-kept cause =
-    record {
-      now = tt;
-      main-reading = λ d h. tt;
-      side-reading = λ d h. tt;
-      mode = mode-has cause;
-      older = λ m d h. h;
-      reminders = λ f x y d h. h;
-      taken = λ kind age distance d r h. h;
-      crossing = λ age distance d r h. h;
-      limit = λ age distance d r h. h;
-      stop = λ d h. h;
-      protected = λ d h. h;
-      main-closed = λ d h. h;
-      side-closed = λ d h. h;
-      main-opened = λ w d h. h;
-      side-opened = λ w d h. h;
-      zone-opened = λ d h. h;
-      offered = λ d h. h;
-      option = λ d h. h;
-      removed = λ d h. h;
-      answered = λ d h. h;
-      armed = λ d h. h;
-      increased = λ d h. h;
-      stepped = λ d h. h;
-      hidden = λ d h. h;
-    }
-
--- mode, ages and misses, buttons and beacon leave the cause that stands
-pub moved-has : (s : Settings) (top : ℕ) (x : Input) (d : Desk) → movedOf s top x d .desk .cause ≡ d .cause
-moved-has s top x d = moved-keeps (cause-kept (d .cause)) s top x d (λ e h. h) refl
-
--- ---- "cause 1 main, cause 2 side", 3 the reminder's miss, 4 the stop, 5 the speed: what arises is one of them, or 0, none
+-- "cause 1 main, cause 2 side", 3 the reminder's miss, 4 the stop, 5 the speed: what arises is one of them, or 0, none
 
 miss-cause : (a b c : Bool) → missCause a b c ≤ 5
 miss-cause a b c =

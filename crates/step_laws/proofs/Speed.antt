@@ -1,5 +1,4 @@
--- Document 01, "Controls": "Supervised speed S, hundredths of km/h, is the least of vmax, T and standing controls; in BTS also BTS speed."
--- S is at most every limit that stands, and is one of them. Once over the list.
+-- S is the least of the limits that stand: one limit more, a list of limits, S.
 use Prim.Native.Nat.{ℕ, _*_, _≤_, min}
 use native.Mathlib.Omega.{arith}
 use mathlib.Core.Path.{_≡_, refl, ap, sym, _∙_}
@@ -14,6 +13,7 @@ use Rattle.step.specs.declared.Input.{Input}
 use Rattle.step.specs.Brake.{braked}
 use Rattle.step.specs.Step.{judgedOf, answerOf, stepOf}
 use Rattle.step.specs.Speed.{Standing, limits, limitsBelow, leastIf, leastOf, supervisedOf}
+use Rattle.step_laws.specs.Speed.{SpeedLaws}
 
 -- ---- one limit more
 
@@ -72,8 +72,7 @@ among soFar (l ∷ rest) = later (among (leastIf (l .0) (l .1) soFar) rest) (one
 -- ---- S
 
 module _ (s : Settings) (top : ℕ) (d : Desk) where
-  -- S is at most every limit that stands
-  pub speed-below : (limit : ℕ) → List·Memᴰ (true, limit) (limits s top d) → supervisedOf s top d ≤ limit
+  speed-below : (limit : ℕ) → List·Memᴰ (true, limit) (limits s top d) → supervisedOf s top d ≤ limit
   unfolding supervisedOf
   speed-below limit m = first m
     where
@@ -84,8 +83,7 @@ module _ (s : Settings) (top : ℕ) (d : Desk) where
           omega arith
       first (List·Memᴰ·tail r) = below (s .vmax * 100) limit r
 
-  -- and is one of them
-  pub speed-among : List·Memᴰ (true, supervisedOf s top d) (limits s top d)
+  speed-among : List·Memᴰ (true, supervisedOf s top d) (limits s top d)
   unfolding supervisedOf
   speed-among = cases (among (s .vmax * 100) (limitsBelow s top d))
     where
@@ -97,11 +95,18 @@ module _ (s : Settings) (top : ℕ) (d : Desk) where
           List·Memᴰ·head here
       cases (inr m) = List·Memᴰ·tail m
 
-  -- no other number is both
-  pub speed-only : (n : ℕ) → List·Memᴰ (true, n) (limits s top d) → ((limit : ℕ) → List·Memᴰ (true, limit) (limits s top d) → n ≤ limit) → n ≡ supervisedOf s top d
+  speed-only : (n : ℕ) → List·Memᴰ (true, n) (limits s top d) → ((limit : ℕ) → List·Memᴰ (true, limit) (limits s top d) → n ≤ limit) → n ≡ supervisedOf s top d
   speed-only n one least = let a = speed-below n one in let b = least (supervisedOf s top d) speed-among in omega arith
 
--- the S that a sample answers is that of the desk at its end
-pub speed-answered : (s : Settings) (top : ℕ) (x : Input) (d : Desk) → stepOf s top x d .answer .speed ≡ supervisedOf s top (stepOf s top x d .desk)
+speed-answered : (s : Settings) (top : ℕ) (x : Input) (d : Desk) → stepOf s top x d .answer .speed ≡ supervisedOf s top (stepOf s top x d .desk)
 unfolding stepOf judgedOf answerOf braked supervisedOf
 speed-answered s top x d = refl
+
+pub speed-laws : (s : Settings) (top : ℕ) → SpeedLaws s top
+speed-laws s top =
+    record {
+      speed-below = speed-below s top;
+      speed-among = speed-among s top;
+      speed-only = speed-only s top;
+      speed-answered = speed-answered s top;
+    }

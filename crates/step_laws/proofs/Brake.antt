@@ -1,6 +1,5 @@
--- Document 01, "Controls": "Any cause puts the brake on; the first stands, lowest number within a sample. It goes off in a standstill sample
--- with rearm, if on before and no cause arises." Of every sample of every desk.
-use Prim.Native.Nat.{ℕ, _≤_}
+-- The brake's laws: the rule on numbers, then of every sample.
+use Prim.Native.Nat.{ℕ}
 use mathlib.Core.Path.{_≡_, refl, sym, _∙_}
 use mathlib.Core.Bool.{Bool, true, false, _&&_}
 use mathlib.Core.Logic.{_⊎_, inl, inr}
@@ -14,7 +13,9 @@ use Rattle.step.specs.declared.Input.{Input}
 use Rattle.step.specs.Speed.{crossingTurned}
 use Rattle.step.specs.Brake.{standingCause, braked}
 use Rattle.step.specs.Step.{judgedOf, answerOf, stepOf}
-use Rattle.laws.specs.Causes.{moved-has, arose-in}
+use Rattle.step_laws.specs.Brake.{rearms, causeAfter, causeArose, BrakeLaws}
+use Rattle.step_laws.proofs.Carried.{carried-laws}
+use Rattle.step_laws.proofs.Causes.{arose-in}
 
 -- ---- the rule, on numbers
 
@@ -53,56 +54,51 @@ rule-off before = refl
 
 module _ (s : Settings) (top : ℕ) (x : Input) (d : Desk) where
   abbrev after : ℕ
-  after = stepOf s top x d .desk .cause
+  after = causeAfter s top x d
 
   abbrev arose : ℕ
-  arose = stepOf s top x d .arose
+  arose = causeArose s top x d
 
-  -- "a standstill sample with rearm": button 10
-  abbrev rearm : Bool
-  rearm = x .still && bitOf (x .buttons) 1024
-
-  -- the cause after a sample is the rule's, of the cause before, what arose, and rearm
-  pub cause-after : stepOf s top x d .desk .cause ≡ standingCause (d .cause) (stepOf s top x d .arose) (x .still && bitOf (x .buttons) 1024)
+  cause-after : after ≡ standingCause (d .cause) arose (rearms x)
   unfolding stepOf judgedOf braked crossingTurned
-  cause-after = rw (moved-has s top x d)
+  cause-after = rw (carried-laws s top x d .to-brake)
 
-  -- the answer tells it
-  pub cause-told : stepOf s top x d .answer .cause ≡ stepOf s top x d .desk .cause
+  cause-told : stepOf s top x d .answer .cause ≡ after
   unfolding stepOf judgedOf answerOf
   cause-told = refl
 
-  -- a cause stands until a rearm takes effect: at standstill, with button 10, and where no cause arose in the sample
-  pub stands-until : (d .cause ≡ 0 → ⊥)
-      → (stepOf s top x d .desk .cause ≡ d .cause)
-      ⊎ ((stepOf s top x d .desk .cause ≡ 0) × ((x .still ≡ true) × ((bitOf (x .buttons) 1024 ≡ true) × (stepOf s top x d .arose ≡ 0))))
-  stands-until n = cases (rule-stands (d .cause) arose rearm n)
+  stands-until : (d .cause ≡ 0 → ⊥)
+      → (after ≡ d .cause) ⊎ ((after ≡ 0) × ((x .still ≡ true) × ((bitOf (x .buttons) 1024 ≡ true) × (arose ≡ 0))))
+  stands-until n = cases (rule-stands (d .cause) arose (rearms x) n)
     where
       cases :
-          (standingCause (d .cause) arose rearm ≡ d .cause) ⊎ ((standingCause (d .cause) arose rearm ≡ 0) × ((rearm ≡ true) × (arose ≡ 0)))
+          (standingCause (d .cause) arose (rearms x) ≡ d .cause) ⊎ ((standingCause (d .cause) arose (rearms x) ≡ 0) × ((rearms x ≡ true) × (arose ≡ 0)))
           → (after ≡ d .cause) ⊎ ((after ≡ 0) × ((x .still ≡ true) × ((bitOf (x .buttons) 1024 ≡ true) × (arose ≡ 0))))
       cases (inl e) = inl (cause-after ∙ e)
       cases (inr e) = let r = and-split (x .still) (bitOf (x .buttons) 1024) (e .1 .0) in inr (cause-after ∙ e .0, (r .0, (r .1, e .1 .1)))
 
-  -- where none stood, what arose stands, whatever is pressed: "Clearing a fresh cause with a rearm in its own sample" is shut out
-  pub first-stands : d .cause ≡ 0 → stepOf s top x d .desk .cause ≡ stepOf s top x d .arose
-  first-stands z = cause-after ∙ rule-first (d .cause) arose rearm z
+  brake-on : (arose ≡ 0 → ⊥) → after ≡ pick (eqb (d .cause) 0) arose (d .cause)
+  brake-on n = cause-after ∙ rule-on (d .cause) arose (rearms x) n
 
-  -- "Any cause puts the brake on; the first stands"
-  pub brake-on : (stepOf s top x d .arose ≡ 0 → ⊥) → stepOf s top x d .desk .cause ≡ pick (eqb (d .cause) 0) (stepOf s top x d .arose) (d .cause)
-  brake-on n = cause-after ∙ rule-on (d .cause) arose rearm n
-
-  pub brake-not-off : (stepOf s top x d .arose ≡ 0 → ⊥) → stepOf s top x d .desk .cause ≡ 0 → ⊥
+  brake-not-off : (arose ≡ 0 → ⊥) → after ≡ 0 → ⊥
   brake-not-off n z = cases (eqb (d .cause) 0) refl (sym (brake-on n) ∙ z)
     where
       cases : (t : Bool) → eqb (d .cause) 0 ≡ t → pick t arose (d .cause) ≡ 0 → ⊥
       cases true e h = n h
       cases false e h = eqb-false (d .cause) 0 e h
 
-  -- "It goes off in a standstill sample with rearm, if on before and no cause arises."
-  pub goes-off : x .still ≡ true → bitOf (x .buttons) 1024 ≡ true → stepOf s top x d .arose ≡ 0 → stepOf s top x d .desk .cause ≡ 0
+  goes-off : x .still ≡ true → bitOf (x .buttons) 1024 ≡ true → arose ≡ 0 → after ≡ 0
   goes-off still pressed none = cause-after ∙ rw (none, still, pressed) (rule-off (d .cause))
 
-  -- what arises is one of the causes 1..5, or 0, none
-  pub arose-high : stepOf s top x d .arose ≤ 5
-  arose-high = arose-in s top x d
+  pub brake-laws : BrakeLaws s top x d
+  brake-laws =
+      record {
+        cause-after = cause-after;
+        cause-told = cause-told;
+        arose-high = arose-in s top x d;
+        stands-until = stands-until;
+        first-stands = λ z. cause-after ∙ rule-first (d .cause) arose (rearms x) z;
+        brake-on = brake-on;
+        brake-not-off = brake-not-off;
+        goes-off = goes-off;
+      }

@@ -1,0 +1,9 @@
+pub mod Choosing
+pub mod Walk
+pub mod Parts
+pub mod Carried
+pub mod Causes
+pub mod Ranges
+pub mod Windows
+pub mod Speed
+pub mod Brake

@@ -1,0 +1,5 @@
+pub mod Ranges
+pub mod Walk
+pub mod Windows
+pub mod Speed
+pub mod Brake

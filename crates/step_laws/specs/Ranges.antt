@@ -1,0 +1,74 @@
+-- Document 01, "The sample": "Ages count samples from the sample that starts them (age 0) and stop at 30,000; distances stop at 60,000,000.
+-- These, steps 0..8, mode, cause, code .. in range, .., are the session's ranges": those of the desk in plain facts, `≤` on each number; and
+-- that what a sample makes of a desk inside them is inside.
+use Prim.Native.Nat.{ℕ, _≤_}
+use Rattle.leaf.specs.Numbers.{ageTop, distanceTop}
+use Rattle.card.specs.declared.Settings.{Settings}
+use Rattle.signals.specs.declared.window.Window.{Window}
+use Rattle.signals.specs.declared.control.Main.{Main}
+use Rattle.signals.specs.declared.stop.Alongside.{Alongside}
+use Rattle.signals.specs.declared.stop.Override.{Override}
+use Rattle.signals.specs.declared.stop.Reminder.{Reminder}
+use Rattle.sides.specs.declared.crossing.Crossing.{Crossing}
+use Rattle.sides.specs.declared.crossing.CrossingOption.{CrossingOption}
+use Rattle.sides.specs.declared.limit.Limit.{Limit}
+use Rattle.desk.specs.declared.state.Desk.{Desk}
+use Rattle.desk.specs.State.{freshDesk}
+use Rattle.step.specs.declared.Input.{Input}
+use Rattle.step.specs.Step.{stepOf}
+
+-- ---- the facts
+
+pub record MainIn (c : Main) : Type 0 where
+  pub age : c .age ≤ ageTop
+  pub distance : c .distance ≤ distanceTop
+
+-- the time to a miss is a count of samples
+pub record WindowIn (w : Window) : Type 0 where
+  pub left : w .left ≤ ageTop
+  pub age : w .age ≤ ageTop
+  pub distance : w .distance ≤ distanceTop
+
+pub record AlongsideIn (a : Alongside) : Type 0 where
+  pub age : a .age ≤ ageTop
+
+pub record OverrideIn (o : Override) : Type 0 where
+  pub age : o .age ≤ ageTop
+
+pub record ReminderIn (r : Reminder) : Type 0 where
+  pub age : r .age ≤ ageTop
+  pub fast : r .fast ≤ ageTop
+  pub distance : r .distance ≤ distanceTop
+
+pub record CrossingIn (c : Crossing) : Type 0 where
+  pub age : c .age ≤ ageTop
+  pub distance : c .distance ≤ distanceTop
+
+pub record OptionIn (o : CrossingOption) : Type 0 where
+  pub age : o .age ≤ ageTop
+  pub distance : o .distance ≤ distanceTop
+
+pub record LimitIn (l : Limit) : Type 0 where
+  pub age : l .age ≤ ageTop
+  pub steps : l .steps ≤ 8
+
+pub record DeskIn (d : Desk) : Type 0 where
+  pub code : d .code ≤ 11
+  pub cause : d .cause ≤ 5
+  pub main : MainIn (d .main)
+  pub window : WindowIn (d .window)
+  pub side : WindowIn (d .side)
+  pub alongside : AlongsideIn (d .alongside)
+  pub armed : OverrideIn (d .armed)
+  pub reminder : ReminderIn (d .reminder)
+  pub crossing : CrossingIn (d .crossing)
+  pub option : OptionIn (d .option)
+  pub limit : LimitIn (d .limit)
+
+-- ---- the laws
+
+pub record RangeLaws : Type 0 where
+  -- a desk as it opens is inside
+  pub fresh-in : DeskIn freshDesk
+  -- what a sample makes of a desk inside is inside, whatever the settings and T are, where the sample's code is in range
+  pub step-in : (s : Settings) (top : ℕ) (x : Input) (d : Desk) → x .beacon ≤ 11 → DeskIn d → DeskIn (stepOf s top x d .desk)
