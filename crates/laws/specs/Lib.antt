@@ -1,4 +1,5 @@
 pub mod Ranges
 pub mod Refusals
 pub mod Inside
+pub mod Unanswered
 pub mod NoToy

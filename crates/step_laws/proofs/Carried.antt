@@ -15,7 +15,7 @@ use Rattle.step.specs.Step.{movedOf, judgedOf, stepOf}
 use Rattle.step_laws.specs.Walk.{atBeacon, Sets, ToBeacon, OfBeacon, CarriedLaws}
 use Rattle.step_laws.proofs.Walk.{AnyReading, at-beacon, after-beacon}
 
-same-is : (a b : Bool) → sameMode a b ≡ true → a ≡ b
+pub same-is : (a b : Bool) → sameMode a b ≡ true → a ≡ b
 same-is true true h = refl
 same-is true false h = sym h
 same-is false true h = h

@@ -5,5 +5,7 @@ pub mod Carried
 pub mod Causes
 pub mod Ranges
 pub mod Windows
+pub mod Unanswered
+pub mod Missed
 pub mod Speed
 pub mod Brake

@@ -92,7 +92,7 @@ unfolding mainCounts takenOver
 main-counts-side d =
     pick-has (λ (e : Desk). e .side ≡ d .side) (asksOf (d .window .waits)) {x = takenOver Announcement (d .window .age) (d .window .distance) d} {y = d} refl refl
 
-main-missed-side : (b : Bool) (d : Desk) → mainMissed b d .side ≡ d .side
+pub main-missed-side : (b : Bool) (d : Desk) → mainMissed b d .side ≡ d .side
 unfolding mainMissed
 main-missed-side true d = main-counts-side d
 main-missed-side false d = refl
