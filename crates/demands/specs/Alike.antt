@@ -28,10 +28,9 @@ use Rattle.session.specs.declared.Outcome.{Outcome}
 use Rattle.session.specs.declared.Outcome.the-variants.{Answered, Refused}
 use Rattle.session.specs.Types.{typeSpeed}
 use Rattle.session.specs.Session.{settingsInside, insideOf, refusedBy, carried, sampledAs, ranOf, sampleOf, inBts}
-use Rattle.step_laws.proofs.Carried.{carried-laws}
 use Rattle.demands.specs.Runs.{after, accepted, outcomes}
 use Rattle.demands.specs.Speaks.{atBeacon, speaks0, speaks1, speaks2, speaks3, bitDiffers, reminderDiffers, differingSpeaks, silentFor}
-use Rattle.demands.specs.Kept.{calm, stays-calm, calm-after}
+use Rattle.demands.specs.Kept.{calm, stays-calm, Kept, begin, presses, beacon}
 use Rattle.demands.specs.Apart.{later, or-false, reminder-same, RemindsAlike, step-alike}
 
 -- ---- a sample is run or refused
@@ -116,14 +115,17 @@ module _ (s : Settings) (train f v w : ℕ) (met : SettingsMet 2 s) (also : Sett
             let e = reminder-same (functionOn s 4) (bitOf f 4) (s .x) (s .y) v w (reminder-zero met) (reminder-zero also) o in
             rw (e .0, e .1, e .2)
 
+    kept : Kept (inBts (x .mode)) (reminderDiffers s (later s f v w)) (atBeacon (at d) x)
+    kept = presses _ _ _ _ _ _ _ (begin _ _ _ _ _ _ d quiet unlit)
+
     ran-alike : run (beside d) x ≡ record { session = beside (run (at d) x .session .desk); outcome = run (at d) x .outcome }
     unfolding ranOf speaks1
     ran-alike =
-        rw (step-alike s f v w (typeSpeed train * 100) (carried (at d) x) d reminds-alike (carried-laws s (typeSpeed train * 100) (carried (at d) x) d .at-mode) (unspoken .0) (unspoken .1) (unspoken .3))
+        rw (step-alike s f v w (typeSpeed train * 100) (carried (at d) x) d reminds-alike (kept .mode) (unspoken .0) (unspoken .1) (unspoken .3))
 
-    calm-still : Calm (run (at d) x .session .desk)
-    unfolding ranOf
-    calm-still o = calm-after s (typeSpeed train * 100) (carried (at d) x) d (quiet o) (unlit o)
+    calm-after : Calm (run (at d) x .session .desk)
+    unfolding ranOf stepOf judgedOf movedOf crossingTurned braked
+    calm-after = beacon _ _ _ _ _ _ _ kept .calmly
 
   -- settings and train type are as they were
   run-at : (d : Desk) (x : Sample) → run (at d) x .session ≡ at (run (at d) x .session .desk)
@@ -149,7 +151,7 @@ module _ (s : Settings) (train f v w : ℕ) (met : SettingsMet 2 s) (also : Sett
       cases true e true o ih = refl
       cases true e false o ih =
           rw (accepted-runs (at d) x e, accepted-runs (beside d) x (rw (refusal-alike d x) e), ran-alike d x quiet o, run-at d x)
-          (ap (λ (l : List Outcome). run (at d) x .outcome ∷ l) (ih (run (at d) x .session .desk) (calm-still d x quiet o)))
+          (ap (λ (l : List Outcome). run (at d) x .outcome ∷ l) (ih (run (at d) x .session .desk) (calm-after d x quiet o)))
       cases false e k o ih =
           rw (refused-stays (at d) x e, refused-stays (beside d) x (rw (refusal-alike d x) e), refusal-alike d x)
           (ap (λ (l : List Outcome). Refused (Number (refusalOf (at d) x)) ∷ l) (ih d quiet))

@@ -26,6 +26,7 @@ use Rattle.step.specs.Speed.{mainSpeed, supervisedOf, crossingTurned}
 use Rattle.step.specs.Brake.{braked}
 use Rattle.step.specs.Step.{functionOn, movedOf, answerOf, judgedOf, stepOf}
 use Rattle.demands.specs.Speaks.{same}
+use Rattle.demands.specs.Kept.{calm, stays-calm, Kept, begin, presses, beacon}
 
 -- settings with other functions, X and Y
 abbrev pub later : Settings → ℕ → ℕ → ℕ → Settings
@@ -34,7 +35,7 @@ later s functions x y =
       vmax = s .vmax;
       tick = s .tick;
       bts = s .bts;
-      clear = s .clear;
+      «conditional_clear» = s .«conditional_clear»;
       announcement = s .announcement;
       preannouncement = s .preannouncement;
       caution = s .caution;

@@ -23,7 +23,6 @@ use Rattle.session.specs.declared.Outcome.the-variants.{Answered, Refused}
 use Rattle.session.specs.Types.{typeSpeed}
 use Rattle.session.specs.Session.{freshSession, openSession, insideOf, carried, ranOf}
 use Rattle.laws.specs.Inside as made
-use Rattle.laws.proofs.Inside.{inside-laws}
 use Rattle.demands.specs.Runs.{after, accepted}
 use Rattle.demands.specs.Refused.{open-inside}
 use Rattle.demands.specs.Alike.{accepted-runs, refused-stays, refusalOf}
@@ -35,7 +34,7 @@ opened = open-inside
 
 -- ".. every session we make is inside": and so is every session after it, whatever samples come, accepted or refused.
 pub always-inside : (settings : Settings) (train : ℕ) (s : Session) (xs : List Sample) → openSession settings train ≡ given s → insideOf (made.after s xs) ≡ true
-always-inside = inside-laws .always-inside
+always-inside = made.always-inside
 
 -- "The session is handed in and handed back with each sample's answer.": each accepted sample's answer, and the desk after it, are the
 -- definition's; settings and train type stay.

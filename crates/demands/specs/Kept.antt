@@ -4,6 +4,7 @@ use Prim.Native.Nat.{ℕ}
 use mathlib.Core.Bool.{Bool, true, false, _&&_}
 use mathlib.Core.Path.{_≡_, refl, sym}
 use Rattle.card.specs.declared.Settings.{Settings}
+use Rattle.card.specs.Card.{reminds}
 use Rattle.signals.specs.declared.control.Main.{Main}
 use Rattle.signals.specs.declared.stop.Phase.{Phase}
 use Rattle.signals.specs.declared.stop.Phase.the-variants.{Off, Due, First, Pressed, Second}
@@ -17,7 +18,7 @@ use Rattle.beacons.specs.Beacons.{mainOpened, sideOpened, optionOffered, readin
 use Rattle.step.specs.declared.Input.{Input}
 use Rattle.step.specs.Speed.{crossingTurned}
 use Rattle.step.specs.Brake.{braked}
-use Rattle.step.specs.Step.{functionOn, judgedOf, stepOf}
+use Rattle.step.specs.Step.{judgedOf, stepOf}
 use Rattle.step_laws.specs.Walk.{Sets, ToBeacon, OfBeacon}
 use Rattle.step_laws.proofs.Walk.{AnyReading, at-beacon, after-beacon}
 
@@ -82,11 +83,11 @@ sets-calm =
 module _ (s : Settings) (top : ℕ) (x : Input) (d : Desk)
     (quiet : calm (d .reminder .phase) ≡ true)
     (dark : (sameMode (d .bts) (x .bts) && firstMet (deskOlder (x .m) d .main) (deskOlder (x .m) d .reminder)) ≡ false) where
-  advanced-calm : sameMode (d .bts) (x .bts) ≡ true → Calm (reminded (functionOn s 4) (s .x) (s .y) (deskOlder (x .m) d))
+  advanced-calm : sameMode (d .bts) (x .bts) ≡ true → Calm (reminded (reminds (s .functions)) (s .x) (s .y) (deskOlder (x .m) d))
   unfolding reminded deskOlder reminderOlder
   advanced-calm e =
       let old : Desk = deskOlder (x .m) d in
-      rw (stays-calm (old .main) (functionOn s 4) (s .x) (s .y) (old .reminder) quiet (rw e at dark)) quiet
+      rw (stays-calm (old .main) (reminds (s .functions)) (s .x) (s .y) (old .reminder) quiet (rw e at dark)) quiet
 
   to-beacon-calm : ToBeacon s top x d Calm
   unfolding modeChanged optionUsed limitRemoved reminderAnswered overrideArmed stopIncreased limitStepped hidePressed

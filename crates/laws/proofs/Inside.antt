@@ -7,6 +7,7 @@ use mathlib.Core.List.{List, [], _∷_}
 use lib.Dec.{eqb}
 use borrow.Author.Tests.{eqb-true, eqb-false}
 use Rattle.leaf.specs.Choosing.{pick}
+use Rattle.leaf.specs.Numbers.{codeTop}
 use Rattle.leaf.specs.Answers.{Answer, given, refused, refusedAt}
 use Rattle.card.specs.declared.Settings.{Settings}
 use Rattle.card.specs.Ranges.{checkSettings, inRange}
@@ -16,10 +17,11 @@ use Rattle.step.specs.declared.Input.{Input}
 use Rattle.session.specs.declared.Sample.{Sample}
 use Rattle.session.specs.declared.Session.{Session}
 use Rattle.session.specs.Types.{typeSpeed, typeAllowed}
-use Rattle.session.specs.Session.{freshSession, openedAfter, openSession, insideOf, refusedBy, carried, ranOf, sampleOf}
+use Rattle.session.specs.Session.{freshSession, openingVersion, openedAfter, openSession, insideOf, refusedBy, carried, ranOf, sampleOf}
+use Rattle.session.specs.Runs.{after}
 use Rattle.step_laws.proofs.Ranges.{range-laws}
 use Rattle.laws.specs.Ranges.{Inside}
-use Rattle.laws.specs.Inside.{after, InsideLaws}
+use Rattle.laws.specs.Inside.{InsideLaws}
 use Rattle.laws.proofs.Ranges.{session-ranges, inside-only, inside-when}
 use Rattle.laws.proofs.Refusals.{refusal-laws}
 
@@ -27,24 +29,24 @@ use Rattle.laws.proofs.Refusals.{refusal-laws}
 
 opened-inside : (settings : Settings) (train : ℕ) (s : Session) → openSession settings train ≡ given s → insideOf s ≡ true
 unfolding openSession
-opened-inside settings train s h = judged (checkSettings 2 settings) refl h
+opened-inside settings train s h = judged (checkSettings openingVersion settings) refl h
   where
-    typed : (t : Bool) → typeAllowed train (settings .vmax) ≡ t → checkSettings 2 settings ≡ inRange → pick t (given (freshSession settings train)) (refused 7) ≡ given s → insideOf s ≡ true
+    typed : (t : Bool) → typeAllowed train (settings .vmax) ≡ t → checkSettings openingVersion settings ≡ inRange → pick t (given (freshSession settings train)) (refused 7) ≡ given s → insideOf s ≡ true
     typed true e c h =
         let t = session-ranges .type-allowed train (settings .vmax) .0 e in
         let same : freshSession settings train ≡ s = cc in
-        let i : Inside (freshSession settings train) = record { settings = in-range-only 2 settings c; train-low = t .0; train-high = t .1 .0; type-speed = t .1 .1; desk = range-laws .fresh-in } in
+        let i : Inside (freshSession settings train) = record { settings = in-range-only openingVersion settings c; train-low = t .0; train-high = t .1 .0; type-speed = t .1 .1; desk = range-laws .fresh-in } in
         rw (← same) (inside-when (freshSession settings train) i)
     typed false e c h = let z : _≡_ {A = ℕ} 0 1 = cc in absurd (omega arith)
 
-    judged : (a : Answer Unit) → checkSettings 2 settings ≡ a → openedAfter a settings train ≡ given s → insideOf s ≡ true
+    judged : (a : Answer Unit) → checkSettings openingVersion settings ≡ a → openedAfter a settings train ≡ given s → insideOf s ≡ true
     judged (given u) c h = typed (typeAllowed train (settings .vmax)) refl c h
     judged (refused n) c h = let z : _≡_ {A = ℕ} 0 1 = cc in absurd (omega arith)
     judged (refusedAt n place) c h = let z : _≡_ {A = ℕ} 0 1 = cc in absurd (omega arith)
 
 -- ---- a sample
 
-ran-inside : (x : Input) (s : Session) → x .beacon ≤ 11 → insideOf s ≡ true → insideOf (ranOf x s .session) ≡ true
+ran-inside : (x : Input) (s : Session) → x .beacon ≤ codeTop → insideOf s ≡ true → insideOf (ranOf x s .session) ≡ true
 unfolding ranOf
 ran-inside x s b h =
     let i = inside-only s h in

@@ -8,6 +8,7 @@ use mathlib.Core.List.{[], _∷_}
 use lib.Dec.{leb, eqb}
 use borrow.Author.Tests.{le-leb, leb-true, leb-false, lt-leb, eqb-true, eqb-false, ne-eqb}
 use Rattle.leaf.specs.Choosing.{pick, and-split}
+use Rattle.leaf.specs.Numbers.{codeTop, buttonsTop}
 use Rattle.leaf.specs.Checks.{firstBad, orFault, FirstFault, first-fault}
 use Rattle.leaf.specs.declared.Refusal.the-variants.{Number}
 use Rattle.desk.specs.Clock.{sameMode}
@@ -37,23 +38,23 @@ outside-when : (s : Session) → (Inside s → ⊥) → insideOf s ≡ false
 outside-when s h = not-so (insideOf s) (λ e. h (inside-only s e))
 
 abbrev codesTest : Sample → Bool
-codesTest x = leb (x .beacon) 11 && leb (x .buttons) 2047 && leb 1 (x .mode) && leb (x .mode) 2
+codesTest x = leb (x .beacon) codeTop && leb (x .buttons) buttonsTop && leb 1 (x .mode) && leb (x .mode) 2
 
 codes-only : (x : Sample) → codesTest x ≡ true → CodesMet x
 codes-only x h =
-    let a = and-split (leb (x .beacon) 11 && leb (x .buttons) 2047 && leb 1 (x .mode)) (leb (x .mode) 2) h in
-    let b = and-split (leb (x .beacon) 11 && leb (x .buttons) 2047) (leb 1 (x .mode)) (a .0) in
-    let c = and-split (leb (x .beacon) 11) (leb (x .buttons) 2047) (b .0) in
+    let a = and-split (leb (x .beacon) codeTop && leb (x .buttons) buttonsTop && leb 1 (x .mode)) (leb (x .mode) 2) h in
+    let b = and-split (leb (x .beacon) codeTop && leb (x .buttons) buttonsTop) (leb 1 (x .mode)) (a .0) in
+    let c = and-split (leb (x .beacon) codeTop) (leb (x .buttons) buttonsTop) (b .0) in
     record {
-      beacon-high = leb-true (x .beacon) 11 (c .0);
-      buttons-high = leb-true (x .buttons) 2047 (c .1);
+      beacon-high = leb-true (x .beacon) codeTop (c .0);
+      buttons-high = leb-true (x .buttons) buttonsTop (c .1);
       mode-low = leb-true 1 (x .mode) (b .1);
       mode-high = leb-true (x .mode) 2 (a .1);
     }
 
 codes-when : (x : Sample) → CodesMet x → codesTest x ≡ true
 codes-when x m =
-    rw (le-leb (x .beacon) 11 (m .beacon-high), le-leb (x .buttons) 2047 (m .buttons-high), le-leb 1 (x .mode) (m .mode-low), le-leb (x .mode) 2 (m .mode-high))
+    rw (le-leb (x .beacon) codeTop (m .beacon-high), le-leb (x .buttons) buttonsTop (m .buttons-high), le-leb 1 (x .mode) (m .mode-low), le-leb (x .mode) 2 (m .mode-high))
 
 abbrev modeTest : Bool → ℕ → ℕ → Bool
 modeTest bts pulses mode = sameMode bts (inBts mode) || standstill pulses

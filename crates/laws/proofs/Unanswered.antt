@@ -48,10 +48,10 @@ module _ (s : Session) (x : Sample) where
   some-arose side t z = let e = arose-side t (λ m. let e = arose-main m in omega arith) in omega arith
 
   -- the cause after the sample is the one that arose, where none stood
-  stands-after : refusedBy s x ≡ 0 → s .desk .cause ≡ 0 → sampleOf s x .session .desk .cause ≡ arose
-  stands-after a z = ap (λ (d : Desk). d .cause) (desk-after a) ∙ brake-laws (s .settings) (topOf s) (carried s x) (s .desk) .first-stands z
+  stands-after : refusedBy s x ≡ 0 → s .desk .brake .cause ≡ 0 → sampleOf s x .session .desk .brake .cause ≡ arose
+  stands-after a z = ap (λ (d : Desk). d .brake .cause) (desk-after a) ∙ brake-laws (s .settings) (topOf s) (carried s x) (s .desk) .first-stands z
 
-  missed-brakes : refusedBy s x ≡ 0 → (which : Which) → over which → sampleOf s x .session .desk .cause ≡ 0 → ⊥
+  missed-brakes : refusedBy s x ≡ 0 → (which : Which) → over which → sampleOf s x .session .desk .brake .cause ≡ 0 → ⊥
   missed-brakes a which t z =
       brake-laws (s .settings) (topOf s) (carried s x) (s .desk) .brake-not-off (some-arose which t) (rw (desk-after a) at z)
 

@@ -2,17 +2,13 @@
 use Prim.Native.Nat.{ℕ}
 use mathlib.Core.Path.{_≡_}
 use mathlib.Core.Bool.{true}
-use mathlib.Core.List.{List, [], _∷_}
+use mathlib.Core.List.{List}
 use Rattle.leaf.specs.Answers.{given}
 use Rattle.card.specs.declared.Settings.{Settings}
 use Rattle.session.specs.declared.Sample.{Sample}
 use Rattle.session.specs.declared.Session.{Session}
 use Rattle.session.specs.Session.{openSession, insideOf, refusedBy, sampleOf}
-
--- the session after a list of samples
-unfoldable pub after : Session → List Sample → Session
-after s [] = s
-after s (x ∷ rest) = after (sampleOf s x .session) rest
+use Rattle.session.specs.Runs.{after}
 
 pub record InsideLaws : Type 0 where
   -- every session that opening gives is inside

@@ -2,4 +2,3 @@ pub mod Ranges
 pub mod Refusals
 pub mod Inside
 pub mod Unanswered
-pub mod NoToy

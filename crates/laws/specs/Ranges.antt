@@ -7,25 +7,22 @@ use mathlib.Core.Bool.{true}
 use mathlib.Core.Logic.{_↔_}
 use Rattle.card.specs.declared.Settings.{Settings}
 use Rattle.card.specs.Plain.{SettingsMet}
-use Rattle.desk.specs.declared.state.Desk.{Desk}
 use Rattle.session.specs.declared.Session.{Session}
 use Rattle.session.specs.Types.{typeSpeed, typeAllowed}
-use Rattle.session.specs.Ranges.{deskInside}
-use Rattle.session.specs.Session.{settingsInside, insideOf}
+use Rattle.session.specs.Session.{openingVersion, settingsInside, insideOf}
 use Rattle.step_laws.specs.Ranges.{DeskIn}
 
 -- a session inside its ranges: the settings by the card's plain facts, judged as opening judges them; the desk by `≤` on each number
 pub record Inside (s : Session) : Type 0 where
-  pub settings : SettingsMet 2 (s .settings)
+  pub settings : SettingsMet openingVersion (s .settings)
   pub train-low : 1 ≤ s .train
   pub train-high : s .train ≤ 8
   pub type-speed : typeSpeed (s .train) ≤ s .settings .vmax
   pub desk : DeskIn (s .desk)
 
 pub record SessionRanges : Type 0 where
-  pub settings-inside : (st : Settings) → (settingsInside st ≡ true) ↔ SettingsMet 2 st
+  pub settings-inside : (st : Settings) → (settingsInside st ≡ true) ↔ SettingsMet openingVersion st
   -- "7 | train type not 1..8, or faster than vmax"
   pub type-allowed : (train vmax : ℕ) → (typeAllowed train vmax ≡ true) ↔ ((1 ≤ train) × ((train ≤ 8) × (typeSpeed train ≤ vmax)))
-  pub desk-inside : (d : Desk) → (deskInside d ≡ true) ↔ DeskIn d
   -- the session: inside exactly when the facts hold
   pub inside-exactly : (s : Session) → (insideOf s ≡ true) ↔ Inside s

@@ -4,6 +4,7 @@ use Prim.Native.Nat.{ℕ, _*_, _≤_, _<_}
 use mathlib.Core.Path.{_≡_}
 use mathlib.Core.Logic.{_⊎_, _↔_}
 use Rattle.leaf.specs.Choosing.{pick}
+use Rattle.leaf.specs.Numbers.{codeTop, buttonsTop}
 use Rattle.leaf.specs.Checks.{FirstFault}
 use Rattle.leaf.specs.declared.Refusal.the-variants.{Number}
 use Rattle.session.specs.declared.Sample.{Sample}
@@ -16,8 +17,8 @@ use Rattle.laws.specs.Ranges.{Inside}
 
 -- "beacon 0..11, buttons newly pressed (bits 0..10), mode 1 CONV or 2 BTS"
 pub record CodesMet (x : Sample) : Type 0 where
-  pub beacon-high : x .beacon ≤ 11
-  pub buttons-high : x .buttons ≤ 2047
+  pub beacon-high : x .beacon ≤ codeTop
+  pub buttons-high : x .buttons ≤ buttonsTop
   pub mode-low : 1 ≤ x .mode
   pub mode-high : x .mode ≤ 2
 

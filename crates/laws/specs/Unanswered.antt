@@ -22,9 +22,9 @@ pub record UnansweredLaws (s : Session) (x : Sample) : Type 0 where
       refusedBy s x ≡ 0 → (which : Which) → WindowAfter (s .settings) (topOf s) (carried s x) (s .desk) (sampleOf s x .session .desk) which
   -- time over is a miss: "cause 1 main, cause 2 side", the lower of both, where no cause stood,
   pub main-missed :
-      refusedBy s x ≡ 0 → TimeOver (carried s x) (s .desk) main → s .desk .cause ≡ 0 → sampleOf s x .session .desk .cause ≡ 1
+      refusedBy s x ≡ 0 → TimeOver (carried s x) (s .desk) main → s .desk .brake .cause ≡ 0 → sampleOf s x .session .desk .brake .cause ≡ 1
   pub side-missed :
-      refusedBy s x ≡ 0 → TimeOver (carried s x) (s .desk) side → (TimeOver (carried s x) (s .desk) main → ⊥) → s .desk .cause ≡ 0
-      → sampleOf s x .session .desk .cause ≡ 2
+      refusedBy s x ≡ 0 → TimeOver (carried s x) (s .desk) side → (TimeOver (carried s x) (s .desk) main → ⊥) → s .desk .brake .cause ≡ 0
+      → sampleOf s x .session .desk .brake .cause ≡ 2
   -- and whatever stood, the brake is on
-  pub missed-brakes : refusedBy s x ≡ 0 → (which : Which) → TimeOver (carried s x) (s .desk) which → sampleOf s x .session .desk .cause ≡ 0 → ⊥
+  pub missed-brakes : refusedBy s x ≡ 0 → (which : Which) → TimeOver (carried s x) (s .desk) which → sampleOf s x .session .desk .brake .cause ≡ 0 → ⊥

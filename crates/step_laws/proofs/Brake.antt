@@ -7,6 +7,7 @@ use lib.Dec.{eqb}
 use borrow.Author.Tests.{eqb-true, eqb-false, ne-eqb}
 use Rattle.leaf.specs.Choosing.{pick, and-split}
 use Rattle.leaf.specs.Numbers.{bitOf}
+use Rattle.leaf.specs.Buttons.{rearmButton}
 use Rattle.card.specs.declared.Settings.{Settings}
 use Rattle.desk.specs.declared.state.Desk.{Desk}
 use Rattle.step.specs.declared.Input.{Input}
@@ -59,7 +60,7 @@ module _ (s : Settings) (top : ℕ) (x : Input) (d : Desk) where
   abbrev arose : ℕ
   arose = causeArose s top x d
 
-  cause-after : after ≡ standingCause (d .cause) arose (rearms x)
+  cause-after : after ≡ standingCause (d .brake .cause) arose (rearms x)
   unfolding stepOf judgedOf braked crossingTurned
   cause-after = rw (carried-laws s top x d .to-brake)
 
@@ -67,28 +68,28 @@ module _ (s : Settings) (top : ℕ) (x : Input) (d : Desk) where
   unfolding stepOf judgedOf answerOf
   cause-told = refl
 
-  stands-until : (d .cause ≡ 0 → ⊥)
-      → (after ≡ d .cause) ⊎ ((after ≡ 0) × ((x .still ≡ true) × ((bitOf (x .buttons) 1024 ≡ true) × (arose ≡ 0))))
-  stands-until n = cases (rule-stands (d .cause) arose (rearms x) n)
+  stands-until : (d .brake .cause ≡ 0 → ⊥)
+      → (after ≡ d .brake .cause) ⊎ ((after ≡ 0) × ((x .still ≡ true) × ((bitOf (x .buttons) rearmButton ≡ true) × (arose ≡ 0))))
+  stands-until n = cases (rule-stands (d .brake .cause) arose (rearms x) n)
     where
       cases :
-          (standingCause (d .cause) arose (rearms x) ≡ d .cause) ⊎ ((standingCause (d .cause) arose (rearms x) ≡ 0) × ((rearms x ≡ true) × (arose ≡ 0)))
-          → (after ≡ d .cause) ⊎ ((after ≡ 0) × ((x .still ≡ true) × ((bitOf (x .buttons) 1024 ≡ true) × (arose ≡ 0))))
+          (standingCause (d .brake .cause) arose (rearms x) ≡ d .brake .cause) ⊎ ((standingCause (d .brake .cause) arose (rearms x) ≡ 0) × ((rearms x ≡ true) × (arose ≡ 0)))
+          → (after ≡ d .brake .cause) ⊎ ((after ≡ 0) × ((x .still ≡ true) × ((bitOf (x .buttons) rearmButton ≡ true) × (arose ≡ 0))))
       cases (inl e) = inl (cause-after ∙ e)
-      cases (inr e) = let r = and-split (x .still) (bitOf (x .buttons) 1024) (e .1 .0) in inr (cause-after ∙ e .0, (r .0, (r .1, e .1 .1)))
+      cases (inr e) = let r = and-split (x .still) (bitOf (x .buttons) rearmButton) (e .1 .0) in inr (cause-after ∙ e .0, (r .0, (r .1, e .1 .1)))
 
-  brake-on : (arose ≡ 0 → ⊥) → after ≡ pick (eqb (d .cause) 0) arose (d .cause)
-  brake-on n = cause-after ∙ rule-on (d .cause) arose (rearms x) n
+  brake-on : (arose ≡ 0 → ⊥) → after ≡ pick (eqb (d .brake .cause) 0) arose (d .brake .cause)
+  brake-on n = cause-after ∙ rule-on (d .brake .cause) arose (rearms x) n
 
   brake-not-off : (arose ≡ 0 → ⊥) → after ≡ 0 → ⊥
-  brake-not-off n z = cases (eqb (d .cause) 0) refl (sym (brake-on n) ∙ z)
+  brake-not-off n z = cases (eqb (d .brake .cause) 0) refl (sym (brake-on n) ∙ z)
     where
-      cases : (t : Bool) → eqb (d .cause) 0 ≡ t → pick t arose (d .cause) ≡ 0 → ⊥
+      cases : (t : Bool) → eqb (d .brake .cause) 0 ≡ t → pick t arose (d .brake .cause) ≡ 0 → ⊥
       cases true e h = n h
-      cases false e h = eqb-false (d .cause) 0 e h
+      cases false e h = eqb-false (d .brake .cause) 0 e h
 
-  goes-off : x .still ≡ true → bitOf (x .buttons) 1024 ≡ true → arose ≡ 0 → after ≡ 0
-  goes-off still pressed none = cause-after ∙ rw (none, still, pressed) (rule-off (d .cause))
+  goes-off : x .still ≡ true → bitOf (x .buttons) rearmButton ≡ true → arose ≡ 0 → after ≡ 0
+  goes-off still pressed none = cause-after ∙ rw (none, still, pressed) (rule-off (d .brake .cause))
 
   pub brake-laws : BrakeLaws s top x d
   brake-laws =
@@ -97,7 +98,7 @@ module _ (s : Settings) (top : ℕ) (x : Input) (d : Desk) where
         cause-told = cause-told;
         arose-high = arose-in s top x d;
         stands-until = stands-until;
-        first-stands = λ z. cause-after ∙ rule-first (d .cause) arose (rearms x) z;
+        first-stands = λ z. cause-after ∙ rule-first (d .brake .cause) arose (rearms x) z;
         brake-on = brake-on;
         brake-not-off = brake-not-off;
         goes-off = goes-off;

@@ -1,4 +1,4 @@
--- What a sample carries through its steps: the mode from the mode's step on, the code up to the beacon's, the cause up to the brake's.
+-- What a sample carries through its steps: the mode from the mode's step on, the code up to the beacon's, the brake up to its own.
 use Prim.Native.Nat.{ℕ}
 use mathlib.Core.Path.{_≡_, refl, sym}
 use mathlib.Core.Bool.{Bool, true, false}
@@ -22,9 +22,9 @@ same-is false true h = h
 same-is false false h = refl
 
 module _ (s : Settings) (top : ℕ) (x : Input) (d : Desk) where
-  -- the sample's mode, this code, and the cause that stood before
+  -- the sample's mode, this code, and the brake as it was
   abbrev Carries : ℕ → Desk → Type 0
-  Carries code e = (e .bts ≡ x .bts) × (e .code ≡ code) × (e .cause ≡ d .cause)
+  Carries code e = (e .bts ≡ x .bts) × (e .code ≡ code) × (e .brake ≡ d .brake)
 
   sets-carry : (code : ℕ) → Sets (Carries code) AnyReading
   unfolding takenOver crossingSet limitNow

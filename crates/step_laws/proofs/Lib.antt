@@ -1,5 +1,6 @@
 pub mod Choosing
 pub mod Walk
+pub mod Facts
 pub mod Parts
 pub mod Carried
 pub mod Causes

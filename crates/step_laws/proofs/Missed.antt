@@ -9,6 +9,7 @@ use borrow.Author.Tests.{eqb-true, eqb-false, ne-eqb}
 use Rattle.leaf.specs.Choosing.{pick}
 use Rattle.leaf.specs.Numbers.{agedOf, furtherOf, exceedsOf}
 use Rattle.card.specs.declared.Settings.{Settings}
+use Rattle.card.specs.Card.{reminds}
 use Rattle.signals.specs.declared.window.Waits.the-variants as waits
 use Rattle.signals.specs.declared.window.Window.{Window}
 use Rattle.signals.specs.declared.control.MainKind.the-variants.{Announcement}
@@ -18,13 +19,14 @@ use Rattle.signals.specs.Stop.{reminderOlder, reminderMissed}
 use Rattle.sides.specs.Crossing.{crossingOlder, unprotectedSet}
 use Rattle.desk.specs.declared.state.Desk.{Desk}
 use Rattle.desk.specs.declared.clock.Turn.{Turn}
+use Rattle.desk.specs.Beside.{besideOlder}
 use Rattle.desk.specs.State.{takenOver, crossingSet, modeChanged}
 use Rattle.desk.specs.Clock.{sameMode, deskOlder, reminded, mainCounts, sideCounts, mainMissed, sideMissed, missCause, advanced, begun}
 use Rattle.beacons.specs.Beacons.{readsOf, beaconTaken}
 use Rattle.step.specs.declared.Input.{Input}
 use Rattle.step.specs.Speed.{crossingTurned, supervisedOf}
 use Rattle.step.specs.Brake.{lowest}
-use Rattle.step.specs.Step.{functionOn, movedOf, judgedOf, stepOf}
+use Rattle.step.specs.Step.{movedOf, judgedOf, stepOf}
 use Rattle.step_laws.specs.Walk.{atBeacon, readsAt}
 use Rattle.step_laws.specs.Windows.{oneOn}
 use Rattle.step_laws.specs.Unanswered.{Which, main, side, windowOf, Open, TimeOver, atButtons, MissLaws}
@@ -86,10 +88,10 @@ side-cause false false false = (λ h. absurd (omega arith), λ h. absurd (false�
 
 module _ (s : Settings) (top : ℕ) (x : Input) (d : Desk) where
   abbrev begins : Turn
-  begins = begun (x .bts) (x .m) (functionOn s 4) (s .x) (s .y) d
+  begins = begun (x .bts) (x .m) (reminds (s .functions)) (s .x) (s .y) d
 
   abbrev advances : Turn
-  advances = advanced (x .m) (functionOn s 4) (s .x) (s .y) d
+  advances = advanced (x .m) (reminds (s .functions)) (s .x) (s .y) d
 
   -- the stop's cause, 4, and the speed's, 5, come after the misses'
   moved-miss : (n : ℕ) → 1 ≤ n → n ≤ 3 → (movedOf s top x d .cause ≡ n) ↔ (begins .cause ≡ n)
@@ -179,9 +181,9 @@ module _ (s : Settings) (top : ℕ) (x : Input) (d : Desk) where
   miss-closes : (which : Which) → TimeOver x d which → windowOf which (atButtons s x d) ≡ closed
   unfolding oneOn
   miss-closes main t =
-      ap (λ (u : Turn). u .desk .window) (begun-as (t .stands .mode)) ∙ window-laws .clock-main (x .m) (functionOn s 4) (s .x) (s .y) d ∙ rw (over-missed main t)
+      ap (λ (u : Turn). u .desk .window) (begun-as (t .stands .mode)) ∙ window-laws .clock-main (x .m) (reminds (s .functions)) (s .x) (s .y) d ∙ rw (over-missed main t)
   miss-closes side t =
-      ap (λ (u : Turn). u .desk .side) (begun-as (t .stands .mode)) ∙ window-laws .clock-side (x .m) (functionOn s 4) (s .x) (s .y) d ∙ rw (over-missed side t)
+      ap (λ (u : Turn). u .desk .side) (begun-as (t .stands .mode)) ∙ window-laws .clock-side (x .m) (reminds (s .functions)) (s .x) (s .y) d ∙ rw (over-missed side t)
 
   side-missed-main : (c : Bool) (e : Desk) → sideMissed c e .main ≡ e .main
   unfolding sideMissed sideCounts crossingSet
@@ -189,10 +191,10 @@ module _ (s : Settings) (top : ℕ) (x : Input) (d : Desk) where
       pick-has (λ (f : Desk). f .main ≡ e .main) (asksOf (e .side .waits)) {x = crossingSet (e .side .age) (e .side .distance) e} {y = e} refl refl
   side-missed-main false e = refl
 
-  main-missed-crossing : (b : Bool) (e : Desk) → mainMissed b e .crossing ≡ e .crossing
+  main-missed-crossing : (b : Bool) (e : Desk) → mainMissed b e .beside .crossing ≡ e .beside .crossing
   unfolding mainMissed mainCounts takenOver
   main-missed-crossing true e =
-      pick-has (λ (f : Desk). f .crossing ≡ e .crossing) (asksOf (e .window .waits)) {x = takenOver Announcement (e .window .age) (e .window .distance) e} {y = e} refl refl
+      pick-has (λ (f : Desk). f .beside .crossing ≡ e .beside .crossing) (asksOf (e .window .waits)) {x = takenOver Announcement (e .window .age) (e .window .distance) e} {y = e} refl refl
   main-missed-crossing false e = refl
 
   counts-1 :
@@ -203,11 +205,11 @@ module _ (s : Settings) (top : ℕ) (x : Input) (d : Desk) where
 
   counts-9 :
       TimeOver x d side → d .side .waits ≡ waits.Nine
-      → atButtons s x d .crossing ≡ unprotectedSet (agedOf (d .side .age)) (furtherOf (d .side .distance) (x .m)) (crossingOlder (x .m) (d .crossing))
-  unfolding advanced reminded deskOlder sideMissed sideCounts crossingSet windowOlder
+      → atButtons s x d .beside .crossing ≡ unprotectedSet (agedOf (d .side .age)) (furtherOf (d .side .distance) (x .m)) (crossingOlder (x .m) (d .beside .crossing))
+  unfolding advanced reminded deskOlder besideOlder sideMissed sideCounts crossingSet windowOlder
   counts-9 t w =
-      let rest : Desk = reminded (functionOn s 4) (s .x) (s .y) (deskOlder (x .m) d) in
-      ap (λ (u : Turn). u .desk .crossing) (begun-as (t .stands .mode)) ∙ rw (over-missed side t, main-missed-side main-over rest, main-missed-crossing main-over rest, w)
+      let rest : Desk = reminded (reminds (s .functions)) (s .x) (s .y) (deskOlder (x .m) d) in
+      ap (λ (u : Turn). u .desk .beside .crossing) (begun-as (t .stands .mode)) ∙ rw (over-missed side t, main-missed-side main-over rest, main-missed-crossing main-over rest, w)
 
   pub miss-laws : MissLaws s top x d
   miss-laws = record { cause-1 = cause-1; cause-2 = cause-2; miss-closes = miss-closes; counts-1 = counts-1; counts-9 = counts-9 }

@@ -5,7 +5,7 @@ use native.Mathlib.Omega.{arith}
 use mathlib.Core.Bool.{Bool, true, false, _&&_, _||_}
 use lib.Dec.{leb}
 use Rattle.leaf.specs.Choosing.{pick}
-use Rattle.leaf.specs.Numbers.{ageTop, distanceTop, agedOf, furtherOf, belowOf}
+use Rattle.leaf.specs.Numbers.{ageTop, distanceTop, causeTop, agedOf, furtherOf, belowOf}
 use Rattle.signals.specs.declared.window.Waits.{Waits}
 use Rattle.signals.specs.declared.window.Window.{Window}
 use Rattle.signals.specs.declared.control.MainKind.{MainKind}
@@ -23,7 +23,11 @@ use Rattle.sides.specs.declared.crossing.CrossingOption.{CrossingOption}
 use Rattle.sides.specs.declared.limit.Limit.{Limit}
 use Rattle.sides.specs.Crossing.{noCrossing, crossingEnd, iconDistance, isProtected, isUnprotected, crossingOlder, unprotectedSet, protectedSet, turnsAt, turnedAt, noOption, optionNow, optionOlder}
 use Rattle.sides.specs.Limit.{noLimit, limitOlder, limitSet, stepped, hidden}
-use Rattle.step_laws.specs.Ranges.{MainIn, WindowIn, AlongsideIn, OverrideIn, ReminderIn, CrossingIn, OptionIn, LimitIn}
+use Rattle.desk.specs.declared.brake.Brake.{Brake}
+use Rattle.desk.specs.declared.beside.Beside.{Beside}
+use Rattle.desk.specs.Brake.{noBrake, brakeWithCause}
+use Rattle.desk.specs.Beside.{nothingBeside, besideWithAlongside, besideWithCrossing, besideWithLimit, besideOlder}
+use Rattle.step_laws.specs.Ranges.{BrakeIn, MainIn, WindowIn, OverrideIn, ReminderIn, OptionIn, AlongsideIn, CrossingIn, LimitIn, BesideIn}
 use Rattle.step_laws.proofs.Choosing.{pick-has, pick-low}
 
 -- ---- main
@@ -163,3 +167,28 @@ limit-stepped l h = record { age = h .age; steps = omega arith }
 
 pub limit-hidden : (l : Limit) → LimitIn l → LimitIn (hidden l)
 limit-hidden l h = let s = h .steps in record { age = h .age; steps = omega arith }
+
+-- ---- the desk's parts: the brake, and what stands beside the main control
+
+pub brake-off : BrakeIn noBrake
+brake-off = record { cause = omega arith }
+
+pub brake-cause : (cause : ℕ) (b : Brake) → cause ≤ causeTop → BrakeIn b → BrakeIn (brakeWithCause cause b)
+brake-cause cause b p h = record { cause = p }
+
+pub beside-nothing : BesideIn nothingBeside
+beside-nothing = record { alongside = alongside-none; crossing = crossing-none; limit = limit-none }
+
+pub beside-older : (m : ℕ) (b : Beside) → BesideIn b → BesideIn (besideOlder m b)
+unfolding besideOlder
+beside-older m b h =
+    record { alongside = alongside-older (b .alongside); crossing = crossing-older m (b .crossing); limit = limit-older (b .limit) (h .limit) }
+
+pub beside-alongside : (x : Alongside) (b : Beside) → AlongsideIn x → BesideIn b → BesideIn (besideWithAlongside x b)
+beside-alongside x b p h = record { alongside = p; crossing = h .crossing; limit = h .limit }
+
+pub beside-crossing : (x : Crossing) (b : Beside) → CrossingIn x → BesideIn b → BesideIn (besideWithCrossing x b)
+beside-crossing x b p h = record { alongside = h .alongside; crossing = p; limit = h .limit }
+
+pub beside-limit : (x : Limit) (b : Beside) → LimitIn x → BesideIn b → BesideIn (besideWithLimit x b)
+beside-limit x b p h = record { alongside = h .alongside; crossing = h .crossing; limit = p }

@@ -1,112 +1,116 @@
--- S is the least of the limits that stand: one limit more, a list of limits, S.
-use Prim.Native.Nat.{ℕ, _*_, _≤_, min}
+-- S is the least of the limits that stand: the lower of two, the lowest of a list, S.
+use Prim.Native.Nat.{ℕ, _*_, _≤_}
 use native.Mathlib.Omega.{arith}
-use mathlib.Core.Path.{_≡_, refl, ap, sym, _∙_}
-use mathlib.Core.Bool.{Bool, true, false}
+use mathlib.Core.Path.{_≡_, refl, sym, ap, _∙_}
+use mathlib.Core.Bool.{Bool, true, false, _&&_, _||_, not, false≢true}
 use mathlib.Core.Logic.{_⊎_, inl, inr}
 use mathlib.Core.List.{List, [], _∷_, List·Memᴰ, List·Memᴰ·head, List·Memᴰ·tail}
-use lib.Dec.{leb}
-use borrow.Author.Tests.{leb-true, leb-false}
+use lib.Dec.{ltb}
+use borrow.Author.Tests.{ltb-true, ltb-false}
+use Rattle.leaf.specs.Choosing.{pick}
 use Rattle.card.specs.declared.Settings.{Settings}
 use Rattle.desk.specs.declared.state.Desk.{Desk}
+use Rattle.step.specs.declared.speed.Standing.{Standing}
 use Rattle.step.specs.declared.Input.{Input}
 use Rattle.step.specs.Brake.{braked}
 use Rattle.step.specs.Step.{judgedOf, answerOf, stepOf}
-use Rattle.step.specs.Speed.{Standing, limits, limitsBelow, leastIf, leastOf, supervisedOf}
-use Rattle.step_laws.specs.Speed.{SpeedLaws}
+use Rattle.step.specs.Speed.{none, alwaysAt, limits, lower, leastOf, supervisedOf}
+use Rattle.step_laws.specs.Speed.{Stands, SpeedLaws}
 
--- ---- one limit more
+-- ---- the lower of two
 
-one-under : (stands : Bool) (limit soFar : ℕ) → leastIf stands limit soFar ≤ soFar
-unfolding leastIf
-one-under true limit soFar = omega arith
-one-under false limit soFar = omega arith
+-- a limit that stands, no higher than this speed
+abbrev Under : ℕ → Standing → Type 0
+Under speed l = (l .stands ≡ true) × (l .speed ≤ speed)
 
-one-below : (stands : Bool) (limit soFar : ℕ) → stands ≡ true → leastIf stands limit soFar ≤ limit
-unfolding leastIf
-one-below true limit soFar e = omega arith
-one-below false limit soFar e = let z : _≡_ {A = ℕ} 0 1 = cc in absurd (omega arith)
+module _ (a b : Standing) where
+  chosen : (p q t : Bool) → a .stands ≡ p → b .stands ≡ q → ltb (b .speed) (a .speed) ≡ t → lower a b ≡ pick (q && (not p || t)) b a
+  unfolding lower
+  chosen p q t e f g = rw (e, f, g)
 
-one-among : (stands : Bool) (limit soFar : ℕ) → (leastIf stands limit soFar ≡ soFar) ⊎ ((stands ≡ true) × (leastIf stands limit soFar ≡ limit))
-unfolding leastIf
-one-among true limit soFar = cases (leb soFar limit) refl
-  where
-    cases : (t : Bool) → leb soFar limit ≡ t → (min soFar limit ≡ soFar) ⊎ ((true ≡ true) × (min soFar limit ≡ limit))
-    cases true e = let h = leb-true soFar limit e in inl (omega arith)
-    cases false e = let h = leb-false soFar limit e in inr (refl, omega arith)
-one-among false limit soFar = inl refl
+  -- it is one of them
+  lower-one : (lower a b ≡ a) ⊎ (lower a b ≡ b)
+  unfolding lower
+  lower-one = cases (b .stands && (not (a .stands) || ltb (b .speed) (a .speed)))
+    where
+      cases : (t : Bool) → (pick t b a ≡ a) ⊎ (pick t b a ≡ b)
+      cases true = inr refl
+      cases false = inl refl
 
--- ---- a list of limits
+  -- and no higher than the first, or the second, where that stands
+  lower-first : a .stands ≡ true → Under (a .speed) (lower a b)
+  lower-first e = cases (b .stands) refl (ltb (b .speed) (a .speed)) refl
+    where
+      cases : (q : Bool) → b .stands ≡ q → (t : Bool) → ltb (b .speed) (a .speed) ≡ t → Under (a .speed) (lower a b)
+      cases true f true g = let h = ltb-true (b .speed) (a .speed) g in rw (chosen true true true e f g) (f, omega arith)
+      cases true f false g = rw (chosen true true false e f g) (e, omega arith)
+      cases false f t g = rw (chosen true false t e f g) (e, omega arith)
 
-under : (soFar : ℕ) (ls : List Standing) → leastOf soFar ls ≤ soFar
-under soFar [] = omega arith
-under soFar (l ∷ rest) = let a = under (leastIf (l .0) (l .1) soFar) rest in let b = one-under (l .0) (l .1) soFar in omega arith
+  lower-second : b .stands ≡ true → Under (b .speed) (lower a b)
+  lower-second f = cases (a .stands) refl (ltb (b .speed) (a .speed)) refl
+    where
+      cases : (p : Bool) → a .stands ≡ p → (t : Bool) → ltb (b .speed) (a .speed) ≡ t → Under (b .speed) (lower a b)
+      cases true e true g = rw (chosen true true true e f g) (f, omega arith)
+      cases true e false g = let h = ltb-false (b .speed) (a .speed) g in rw (chosen true true false e f g) (e, omega arith)
+      cases false e t g = rw (chosen false true t e f g) (f, omega arith)
 
-below : {ls : List Standing} (soFar limit : ℕ) → List·Memᴰ (true, limit) ls → leastOf soFar ls ≤ limit
-below soFar limit (List·Memᴰ·head {x = l} {xs = rest} e) =
-    let stands : l .0 ≡ true = ap (λ (p : Standing). p .0) (sym e) in
-    let same : l .1 ≡ limit = ap (λ (p : Standing). p .1) (sym e) in
-    let a = under (leastIf (l .0) (l .1) soFar) rest in
-    let b = one-below (l .0) (l .1) soFar stands in
-    omega arith
-below soFar limit (List·Memᴰ·tail {x = l} {xs = rest} m) = below (leastIf (l .0) (l .1) soFar) limit m
+-- ---- the lowest of a list
 
-among : (soFar : ℕ) (ls : List Standing) → (leastOf soFar ls ≡ soFar) ⊎ List·Memᴰ (true, leastOf soFar ls) ls
+under : (soFar : Standing) (ls : List Standing) (speed : ℕ) → Under speed soFar → Under speed (leastOf soFar ls)
+under soFar [] speed h = h
+under soFar (l ∷ rest) speed h =
+    let one = lower-first soFar l (h .0) in
+    let low = h .1 in
+    let next = one .1 in
+    under (lower soFar l) rest speed (one .0, omega arith)
+
+below : {ls : List Standing} (soFar l : Standing) → List·Memᴰ l ls → l .stands ≡ true → Under (l .speed) (leastOf soFar ls)
+below soFar l (List·Memᴰ·head {x = first} {xs = rest} e) h =
+    let one : Under (first .speed) (lower soFar first) = lower-second soFar first (rw (← e) h) in
+    rw e (under (lower soFar first) rest (first .speed) one)
+below soFar l (List·Memᴰ·tail {x = first} {xs = rest} m) h = below (lower soFar first) l m h
+
+among : (soFar : Standing) (ls : List Standing) → (leastOf soFar ls ≡ soFar) ⊎ List·Memᴰ (leastOf soFar ls) ls
 among soFar [] = inl refl
-among soFar (l ∷ rest) = later (among (leastIf (l .0) (l .1) soFar) rest) (one-among (l .0) (l .1) soFar)
+among soFar (l ∷ rest) = later (among (lower soFar l) rest) (lower-one soFar l)
   where
-    least : ℕ
-    least = leastOf (leastIf (l .0) (l .1) soFar) rest
+    least : Standing
+    least = leastOf (lower soFar l) rest
 
     later :
-        (least ≡ leastIf (l .0) (l .1) soFar) ⊎ List·Memᴰ (true, least) rest
-        → (leastIf (l .0) (l .1) soFar ≡ soFar) ⊎ ((l .0 ≡ true) × (leastIf (l .0) (l .1) soFar ≡ l .1))
-        → (least ≡ soFar) ⊎ List·Memᴰ (true, least) (l ∷ rest)
+        (least ≡ lower soFar l) ⊎ List·Memᴰ least rest → (lower soFar l ≡ soFar) ⊎ (lower soFar l ≡ l)
+        → (least ≡ soFar) ⊎ List·Memᴰ least (l ∷ rest)
     later (inr m) q = inr (List·Memᴰ·tail m)
     later (inl e) (inl f) = inl (e ∙ f)
-    later (inl e) (inr f) =
-        let value : least ≡ l .1 = e ∙ f .1 in
-        let here : _≡_ {A = Standing} (true, least) l = rw (value, ← f .0) in
-        inr (List·Memᴰ·head here)
+    later (inl e) (inr f) = inr (List·Memᴰ·head (e ∙ f))
 
 -- ---- S
 
-module _ (s : Settings) (top : ℕ) (d : Desk) where
-  speed-below : (limit : ℕ) → List·Memᴰ (true, limit) (limits s top d) → supervisedOf s top d ≤ limit
+module _ (s : Settings) (top : ℕ) where
+  -- vmax stands, so that one stands
+  one-stands : (d : Desk) → leastOf none (limits s top d) .stands ≡ true
+  one-stands d =
+      let first : List·Memᴰ (alwaysAt (s .vmax * 100)) (limits s top d) = List·Memᴰ·head refl in
+      below none (alwaysAt (s .vmax * 100)) first refl .0
+
+  speed-below : (d : Desk) (n : ℕ) → Stands s top d n → supervisedOf s top d ≤ n
   unfolding supervisedOf
-  speed-below limit m = first m
-    where
-      first : List·Memᴰ (true, limit) (limits s top d) → leastOf (s .vmax * 100) (limitsBelow s top d) ≤ limit
-      first (List·Memᴰ·head e) =
-          let same : limit ≡ s .vmax * 100 = ap (λ (p : Standing). p .1) e in
-          let a = under (s .vmax * 100) (limitsBelow s top d) in
-          omega arith
-      first (List·Memᴰ·tail r) = below (s .vmax * 100) limit r
+  speed-below d n l = let low = below none (l .limit) (l .listed) (l .stands) .1 in let e = l .same in omega arith
 
-  speed-among : List·Memᴰ (true, supervisedOf s top d) (limits s top d)
+  speed-among : (d : Desk) → Stands s top d (supervisedOf s top d)
   unfolding supervisedOf
-  speed-among = cases (among (s .vmax * 100) (limitsBelow s top d))
+  speed-among d = cases (among none (limits s top d))
     where
-      cases :
-          (leastOf (s .vmax * 100) (limitsBelow s top d) ≡ s .vmax * 100) ⊎ List·Memᴰ (true, leastOf (s .vmax * 100) (limitsBelow s top d)) (limitsBelow s top d)
-          → List·Memᴰ (true, leastOf (s .vmax * 100) (limitsBelow s top d)) (limits s top d)
-      cases (inl e) =
-          let here : _≡_ {A = Standing} (true, leastOf (s .vmax * 100) (limitsBelow s top d)) (true, s .vmax * 100) = rw e in
-          List·Memᴰ·head here
-      cases (inr m) = List·Memᴰ·tail m
+      cases : (leastOf none (limits s top d) ≡ none) ⊎ List·Memᴰ (leastOf none (limits s top d)) (limits s top d) → Stands s top d (leastOf none (limits s top d) .speed)
+      cases (inl e) = absurd (false≢true (sym (ap (λ (l : Standing). l .stands) e) ∙ one-stands d))
+      cases (inr m) = record { limit = leastOf none (limits s top d); listed = m; stands = one-stands d; same = refl }
 
-  speed-only : (n : ℕ) → List·Memᴰ (true, n) (limits s top d) → ((limit : ℕ) → List·Memᴰ (true, limit) (limits s top d) → n ≤ limit) → n ≡ supervisedOf s top d
-  speed-only n one least = let a = speed-below n one in let b = least (supervisedOf s top d) speed-among in omega arith
+  speed-only : (d : Desk) (n : ℕ) → Stands s top d n → ((m : ℕ) → Stands s top d m → n ≤ m) → n ≡ supervisedOf s top d
+  speed-only d n one least = let a = speed-below d n one in let b = least (supervisedOf s top d) (speed-among d) in omega arith
 
-speed-answered : (s : Settings) (top : ℕ) (x : Input) (d : Desk) → stepOf s top x d .answer .speed ≡ supervisedOf s top (stepOf s top x d .desk)
-unfolding stepOf judgedOf answerOf braked supervisedOf
-speed-answered s top x d = refl
+  speed-answered : (x : Input) (d : Desk) → stepOf s top x d .answer .speed ≡ supervisedOf s top (stepOf s top x d .desk)
+  unfolding stepOf judgedOf answerOf braked supervisedOf
+  speed-answered x d = refl
 
-pub speed-laws : (s : Settings) (top : ℕ) → SpeedLaws s top
-speed-laws s top =
-    record {
-      speed-below = speed-below s top;
-      speed-among = speed-among s top;
-      speed-only = speed-only s top;
-      speed-answered = speed-answered s top;
-    }
+  pub speed-laws : SpeedLaws s top
+  speed-laws = record { speed-below = speed-below; speed-among = speed-among; speed-only = speed-only; speed-answered = speed-answered }

@@ -12,6 +12,7 @@ use borrow.Author.Tests.{eqb-true, eq-eqb}
 use Rattle.leaf.specs.Choosing.{pick, and-split}
 use Rattle.leaf.specs.Numbers.{bitOf}
 use Rattle.card.specs.declared.Settings.{Settings}
+use Rattle.card.specs.Card.{protects, zones}
 use Rattle.signals.specs.declared.window.Waits.{Waits}
 use Rattle.signals.specs.declared.window.Waits.the-variants as waits
 use Rattle.signals.specs.declared.window.Window.{Window}
@@ -26,7 +27,7 @@ use Rattle.beacons.specs.Beacons.{mainOpened, sideOpened, optionOffered, readin
 use Rattle.step.specs.declared.Input.{Input}
 use Rattle.step.specs.Speed.{crossingTurned}
 use Rattle.step.specs.Brake.{braked}
-use Rattle.step.specs.Step.{functionOn, movedOf, judgedOf, stepOf}
+use Rattle.step.specs.Step.{movedOf, judgedOf, stepOf}
 use Rattle.step_laws.specs.Walk.{atBeacon, readsAt, Ends, missed, pressed, Sets, ToBeacon, OfBeacon}
 use Rattle.step_laws.specs.Unanswered.{Which, main, side, windowOf, TimeOver, Unanswered, reads, Shuts, Zones, WindowAfter, waitingDesk, beacon7, NoLending, stepsOf, AllUnanswered, ChainLaws}
 use Rattle.step_laws.proofs.Walk.{AnyReading, at-beacon, after-beacon}
@@ -95,9 +96,9 @@ module _ (s : Settings) (top : ℕ) (x : Input) (d : Desk) (old : Window) (befor
   side-opened side w e o h = displaced side w (e .side) o h
 
   zone-opened : (which : Which) (e : Desk) → readsAt s x (atBeacon s top x d) ≡ true → x .beacon ≡ 7
-      → (zoneMet (withCode (x .beacon) (atBeacon s top x d)) && functionOn s 2) ≡ true → Is which e → After which (windowOf which (withWindow (opened waits.Zone zoneMiss) e))
+      → (zoneMet (withCode (x .beacon) (atBeacon s top x d)) && zones (s .functions)) ≡ true → Is which e → After which (windowOf which (withWindow (opened waits.Zone zoneMiss) e))
   zone-opened main e r c z h =
-      let q = and-split (zoneMet (withCode (x .beacon) (atBeacon s top x d))) (functionOn s 2) z in
+      let q = and-split (zoneMet (withCode (x .beacon) (atBeacon s top x d))) (zones (s .functions)) z in
       zone (record { is-main = refl; read = sym (reads-at s top x d) ∙ r; code = c; near = sym (zone-code (x .beacon) (atBeacon s top x d)) ∙ q .0; function = q .1 })
   zone-opened side e r c z h = it side (e .side) h
 
@@ -211,7 +212,7 @@ read-7 f0 e z = rw z
 
 module _ (s : Settings) (top : ℕ) (x : Input) (d : Desk) where
   -- the main window after a reading is the reading's
-  after-read : reads s x d ≡ true → stepOf s top x d .desk .window ≡ readingOf (x .beacon) (functionOn s 1) (functionOn s 2) (withCode (x .beacon) (atBeacon s top x d)) .window
+  after-read : reads s x d ≡ true → stepOf s top x d .desk .window ≡ readingOf (x .beacon) (protects (s .functions)) (zones (s .functions)) (withCode (x .beacon) (atBeacon s top x d)) .window
   unfolding stepOf judgedOf crossingTurned braked movedOf beaconTaken readIf
   after-read r = let e : readsAt s x (atBeacon s top x d) ≡ true = reads-at s top x d ∙ r in rw e
 
@@ -219,13 +220,13 @@ module _ (s : Settings) (top : ℕ) (x : Input) (d : Desk) where
   shut-after which h = rw (h .is-main) (cases (h .code))
     where
       cases : (x .beacon ≡ 3) ⊎ (x .beacon ≡ 8) → stepOf s top x d .desk .window ≡ closed
-      cases (inl e) = after-read (h .read) ∙ rw e (read-3 (functionOn s 1) (functionOn s 2) _)
-      cases (inr e) = after-read (h .read) ∙ rw e (read-8 (functionOn s 1) (functionOn s 2) _)
+      cases (inl e) = after-read (h .read) ∙ rw e (read-3 (protects (s .functions)) (zones (s .functions)) _)
+      cases (inr e) = after-read (h .read) ∙ rw e (read-8 (protects (s .functions)) (zones (s .functions)) _)
 
   zone-after : (which : Which) → Zones s top x d which → windowOf which (stepOf s top x d .desk) ≡ opened waits.Zone zoneMiss
   zone-after which h =
       rw (h .is-main)
-      (after-read (h .read) ∙ rw (h .function, h .code) (read-7 (functionOn s 1) _ (zone-code 7 (atBeacon s top x d) ∙ h .near)))
+      (after-read (h .read) ∙ rw (h .function, h .code) (read-7 (protects (s .functions)) _ (zone-code 7 (atBeacon s top x d) ∙ h .near)))
 
   pub window-after : (which : Which) → WindowAfter s top x d (stepOf s top x d .desk) which
   window-after which = record { nearer = nearer s top x d which; shut = shut-after which; zoned = zone-after which }

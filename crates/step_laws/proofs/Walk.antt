@@ -6,7 +6,9 @@ use lib.Dec.{eqb}
 use borrow.Author.Tests.{eqb-true}
 use Rattle.leaf.specs.Choosing.{and-split}
 use Rattle.leaf.specs.Numbers.{bitOf}
+use Rattle.leaf.specs.Buttons.{announcementButton, preannouncementButton, cautionButton, crossingButton, limitButton}
 use Rattle.card.specs.declared.Settings.{Settings}
+use Rattle.card.specs.Card.{protects, zones, reminds}
 use Rattle.signals.specs.declared.window.Waits.{Waits}
 use Rattle.signals.specs.declared.window.Waits.the-variants as waits
 use Rattle.signals.specs.declared.window.Window.{Window}
@@ -20,7 +22,7 @@ use Rattle.desk.specs.Clock.{sameMode, deskOlder, reminded, mainCounts, sideCou
 use Rattle.buttons.specs.Buttons.{chosen, answeredBy, mainAnswered, sideAnswered, pressed, optionUsed, limitRemoved, reminderAnswered, overrideArmed, stopIncreased, limitStepped, crossingPressed, limitPressed, overridePressed, increasePressed, hidePressed, windowPresses, allPresses, pressesOf}
 use Rattle.beacons.specs.Beacons.{reading1, readingRow, optionOffered, reading3, reading4, zoneOr, zoneMet, reading7, reading8, reading9, readingLimit, readingOf, readIf, beaconTaken}
 use Rattle.step.specs.declared.Input.{Input}
-use Rattle.step.specs.Step.{functionOn, movedOf}
+use Rattle.step.specs.Step.{movedOf}
 use Rattle.step_laws.specs.Walk.{atBeacon, readsAt, Ends, missed, pressed as by-press, Sets, ToBeacon, OfBeacon}
 use Rattle.step_laws.proofs.Choosing.{pick-by, pick-has}
 
@@ -42,10 +44,10 @@ module _ {P : Desk → Type 0} {R : ℕ → ℕ → Type 0} (k : Sets P R) where
   chosen-keeps : (weight age distance : ℕ) (e : Desk) → R age distance → P e → P (chosen weight age distance e)
   unfolding chosen
   chosen-keeps weight age distance e r h =
-      pick-has P (eqb weight 1) (k .taken main.Announcement age distance e r h)
-      (pick-has P (eqb weight 2) (k .taken main.Preannouncement age distance e r h)
-      (pick-has P (eqb weight 4) (k .taken main.Caution age distance e r h)
-      (pick-has P (eqb weight 32) (k .crossing age distance e r h) (pick-has P (eqb weight 64) (k .limit age distance e r h) h))))
+      pick-has P (eqb weight announcementButton) (k .taken main.Announcement age distance e r h)
+      (pick-has P (eqb weight preannouncementButton) (k .taken main.Preannouncement age distance e r h)
+      (pick-has P (eqb weight cautionButton) (k .taken main.Caution age distance e r h)
+      (pick-has P (eqb weight crossingButton) (k .crossing age distance e r h) (pick-has P (eqb weight limitButton) (k .limit age distance e r h) h))))
 
   answered-keeps : (weight : ℕ) (w : Window) (e : Desk) → R (w .age) (w .distance) → P e → P (answeredBy weight w e)
   unfolding answeredBy
@@ -65,14 +67,14 @@ module _ {s : Settings} {top : ℕ} {x : Input} {d : Desk} {P : Desk → Type 0}
   side-missed true e next o h n = t .side-closed e _ (missed o) h (side-counts k next n)
   side-missed false e next o h n = n
 
-  begun-has : P (begun (x .bts) (x .m) (functionOn s 4) (s .x) (s .y) d .desk)
+  begun-has : P (begun (x .bts) (x .m) (reminds (s .functions)) (s .x) (s .y) d .desk)
   unfolding begun advanced reminded
-  begun-has = pick-by (λ (u : Turn). P (u .desk)) (sameMode (d .bts) (x .bts)) {x = advanced (x .m) (functionOn s 4) (s .x) (s .y) d} {y = record { desk = modeChanged (x .bts) d; cause = 0 }} on (λ e. t .changed e)
+  begun-has = pick-by (λ (u : Turn). P (u .desk)) (sameMode (d .bts) (x .bts)) {x = advanced (x .m) (reminds (s .functions)) (s .x) (s .y) d} {y = record { desk = modeChanged (x .bts) d; cause = 0 }} on (λ e. t .changed e)
     where
       rest : Desk
-      rest = reminded (functionOn s 4) (s .x) (s .y) (deskOlder (x .m) d)
+      rest = reminded (reminds (s .functions)) (s .x) (s .y) (deskOlder (x .m) d)
 
-      on : sameMode (d .bts) (x .bts) ≡ true → P (advanced (x .m) (functionOn s 4) (s .x) (s .y) d .desk)
+      on : sameMode (d .bts) (x .bts) ≡ true → P (advanced (x .m) (reminds (s .functions)) (s .x) (s .y) d .desk)
       on e = let h = t .advanced e in side-missed (missedOf (rest .side)) rest _ refl h (main-missed (missedOf (rest .window)) rest refl h)
 
   -- ---- buttons
@@ -165,11 +167,11 @@ module _ {s : Settings} {top : ℕ} {x : Input} {d : Desk} {P Q : Desk → Type 
   abbrev here : Desk
   here = withCode (x .beacon) (atBeacon s top x d)
 
-  zone-has : (b : Bool) (e : Desk) → readsAt s x (atBeacon s top x d) ≡ true → x .beacon ≡ 7 → (zoneMet here && functionOn s 2) ≡ b → P e → Q (zoneOr b e)
+  zone-has : (b : Bool) (e : Desk) → readsAt s x (atBeacon s top x d) ≡ true → x .beacon ≡ 7 → (zoneMet here && zones (s .functions)) ≡ b → P e → Q (zoneOr b e)
   zone-has true e r c z h = o .zone-opened _ r c z (k .taken main.Zone 0 0 e (k .now) h)
   zone-has false e r c z h = o .main-opened waits.Seven _ refl (k .taken main.BeforeStop 0 0 e (k .now) h)
 
-  reading-has : readsAt s x (atBeacon s top x d) ≡ true → P here → Q (readingOf (x .beacon) (functionOn s 1) (functionOn s 2) here)
+  reading-has : readsAt s x (atBeacon s top x d) ≡ true → P here → Q (readingOf (x .beacon) (protects (s .functions)) (zones (s .functions)) here)
   unfolding readingOf reading1 reading3 reading7 reading8 reading9 readingLimit
   reading-has r h =
       let code : ℕ = x .beacon in
@@ -186,7 +188,7 @@ module _ {s : Settings} {top : ℕ} {x : Input} {d : Desk} {P Q : Desk → Type 
       (λ n. pick-has Q (eqb code 9) (o .side-opened waits.Nine _ refl aside)
       (o .side-opened waits.Limit _ refl (k .limit 0 0 _ (k .now) aside))))))))))
 
-  read-has : (b : Bool) → readsAt s x (atBeacon s top x d) ≡ b → P here → Q (readIf b (x .beacon) (functionOn s 1) (functionOn s 2) here)
+  read-has : (b : Bool) → readsAt s x (atBeacon s top x d) ≡ b → P here → Q (readIf b (x .beacon) (protects (s .functions)) (zones (s .functions)) here)
   unfolding readIf
   read-has true r h = reading-has r h
   read-has false r h = o .unread here h

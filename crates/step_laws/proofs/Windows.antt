@@ -8,6 +8,7 @@ use lib.Dec.{eqb, leb, ltb}
 use borrow.Author.Tests.{eq-eqb, ne-eqb, eqb-true, eqb-false, leb-true, leb-false, ltb-true, ltb-false}
 use Rattle.leaf.specs.Numbers.{ageTop, bitOf}
 use Rattle.leaf.specs.Choosing.{pick}
+use Rattle.leaf.specs.Buttons.{beforeStopButton}
 use Rattle.signals.specs.declared.window.Waits.{Waits}
 use Rattle.signals.specs.declared.window.Waits.the-variants.{Nothing, One, Two, Five, Six, Seven, Zone, Nine, Limit}
 use Rattle.signals.specs.declared.window.Window.{Window}
@@ -173,7 +174,7 @@ module _ (way : ℕ → ℕ) (w : Window) (o : isOpen (w .waits) ≡ true) (some
       cases true e = let under = ltb-true k (w .left) e in rw (alive k under, same-waits way w k, m under)
       cases false e = none-answers (lived way k w) weight (gone k (ltb-false k (w .left) e))
 
-zone-exactly : (way : ℕ → ℕ) (k weight : ℕ) → answersOf (lived way k (opened Zone zoneMiss)) weight ≡ (ltb k zoneMiss && bitOf (pick (leb zonePress k) 16 0) weight)
+zone-exactly : (way : ℕ → ℕ) (k weight : ℕ) → answersOf (lived way k (opened Zone zoneMiss)) weight ≡ (ltb k zoneMiss && bitOf (pick (leb zonePress k) beforeStopButton 0) weight)
 zone-exactly way k weight =
     answers-while way (opened Zone zoneMiss) refl (omega arith) k weight _
     (λ (h : k < zoneMiss). let a : later way k (opened Zone zoneMiss) .age ≡ k = age-runs way (opened Zone zoneMiss) k (omega arith) ∙ omega arith in rw a)

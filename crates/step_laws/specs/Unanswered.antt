@@ -14,6 +14,7 @@ use lib.ListN.{length}
 use Rattle.leaf.specs.Choosing.{pick}
 use Rattle.leaf.specs.Numbers.{bitOf, agedOf, furtherOf}
 use Rattle.card.specs.declared.Settings.{Settings}
+use Rattle.card.specs.Card.{zones, reminds, readsInBts}
 use Rattle.signals.specs.declared.window.Waits.the-variants as waits
 use Rattle.signals.specs.declared.window.Window.{Window}
 use Rattle.signals.specs.declared.control.MainKind.the-variants.{Announcement}
@@ -25,7 +26,7 @@ use Rattle.desk.specs.State.{withWindow, freshDesk}
 use Rattle.desk.specs.Clock.{begun}
 use Rattle.beacons.specs.Beacons.{readsOf, zoneMet}
 use Rattle.step.specs.declared.Input.{Input}
-use Rattle.step.specs.Step.{functionOn, stepOf}
+use Rattle.step.specs.Step.{stepOf}
 use Rattle.step_laws.specs.Walk.{atBeacon}
 
 -- "Windows: main (1, 2, 5, 6, 7) and side (9, 10, 11)."
@@ -61,7 +62,7 @@ pub record Unanswered (x : Input) (d : Desk) (which : Which) : Type 0 where
 
 -- "A beacon is read when its code differs from that of the accepted sample before"
 abbrev pub reads : Settings → Input → Desk → Bool
-reads s x d = readsOf (x .beacon) (functionOn s 8) (x .bts) (d .code)
+reads s x d = readsOf (x .beacon) (readsInBts (s .functions)) (x .bts) (d .code)
 
 -- "Beacons 3 and 8 displace the main window and open none (house)."
 pub record Shuts (s : Settings) (x : Input) (d : Desk) (which : Which) : Type 0 where
@@ -75,7 +76,7 @@ pub record Zones (s : Settings) (top : ℕ) (x : Input) (d : Desk) (which : Whic
   pub read : reads s x d ≡ true
   pub code : x .beacon ≡ 7
   pub near : zoneMet (atBeacon s top x d) ≡ true
-  pub function : functionOn s 2 ≡ true
+  pub function : zones (s .functions) ≡ true
 
 -- ---- what the sample leaves of the window
 
@@ -107,7 +108,7 @@ pub record NoLending : Type 0 where
 
 -- the desk after mode, ages, endings, reminders and misses
 abbrev pub atButtons : Settings → Input → Desk → Desk
-atButtons s x d = begun (x .bts) (x .m) (functionOn s 4) (s .x) (s .y) d .desk
+atButtons s x d = begun (x .bts) (x .m) (reminds (s .functions)) (s .x) (s .y) d .desk
 
 pub record MissLaws (s : Settings) (top : ℕ) (x : Input) (d : Desk) : Type 0 where
   -- cause 1 arises exactly where the main window's time is over, 2 where the side window's is and no 1 arises
@@ -121,7 +122,7 @@ pub record MissLaws (s : Settings) (top : ℕ) (x : Input) (d : Desk) : Type 0 w
       → atButtons s x d .main ≡ mainOf Announcement (agedOf (d .window .age)) (furtherOf (d .window .distance) (x .m))
   pub counts-9 :
       TimeOver x d side → d .side .waits ≡ waits.Nine
-      → atButtons s x d .crossing ≡ unprotectedSet (agedOf (d .side .age)) (furtherOf (d .side .distance) (x .m)) (crossingOlder (x .m) (d .crossing))
+      → atButtons s x d .beside .crossing ≡ unprotectedSet (agedOf (d .side .age)) (furtherOf (d .side .distance) (x .m)) (crossingOlder (x .m) (d .beside .crossing))
 
 -- ---- any number of samples
 

@@ -6,6 +6,7 @@ use mathlib.Core.Path.{_≡_}
 use mathlib.Core.Bool.{Bool, true, false, _&&_}
 use Rattle.leaf.specs.Numbers.{bitOf}
 use Rattle.card.specs.declared.Settings.{Settings}
+use Rattle.card.specs.Card.{zones, reminds, readsInBts}
 use Rattle.signals.specs.declared.window.Waits.{Waits}
 use Rattle.signals.specs.declared.window.Waits.the-variants as waits
 use Rattle.signals.specs.declared.window.Window.{Window}
@@ -17,16 +18,16 @@ use Rattle.desk.specs.Clock.{sameMode, deskOlder, reminded, begun}
 use Rattle.buttons.specs.Buttons.{optionUsed, limitRemoved, reminderAnswered, overrideArmed, stopIncreased, limitStepped, hidePressed, pressesOf}
 use Rattle.beacons.specs.Beacons.{readsOf, mainOpened, sideOpened, optionOffered, reading4, zoneMet, stopped}
 use Rattle.step.specs.declared.Input.{Input}
-use Rattle.step.specs.Step.{functionOn, movedOf, stepOf}
+use Rattle.step.specs.Step.{movedOf, stepOf}
 
 -- the desk where the beacon is looked at: after mode, ages, misses and buttons
 abbrev pub atBeacon : Settings → ℕ → Input → Desk → Desk
 atBeacon s top x d =
-    pressesOf (x .buttons) (x .m) (s .limit) top (begun (x .bts) (x .m) (functionOn s 4) (s .x) (s .y) d .desk)
+    pressesOf (x .buttons) (x .m) (s .limit) top (begun (x .bts) (x .m) (reminds (s .functions)) (s .x) (s .y) d .desk)
 
 -- a beacon is read there
 abbrev pub readsAt : Settings → Input → Desk → Bool
-readsAt s x e = readsOf (x .beacon) (functionOn s 8) (e .bts) (e .code)
+readsAt s x e = readsOf (x .beacon) (readsInBts (s .functions)) (e .bts) (e .code)
 
 -- a window ends: it is missed, or a pressed button answers it; button k has weight 2 to the k
 pub data Ends (x : Input) (w : Window) : Type 0 where
@@ -50,7 +51,7 @@ module _ (s : Settings) (top : ℕ) (x : Input) (d : Desk) where
   pub record ToBeacon (P : Desk → Type 0) : Type 0 where
     -- mode; or, where it is not changed, ages, endings and reminders
     pub changed : sameMode (d .bts) (x .bts) ≡ false → P (modeChanged (x .bts) d)
-    pub advanced : sameMode (d .bts) (x .bts) ≡ true → P (reminded (functionOn s 4) (s .x) (s .y) (deskOlder (x .m) d))
+    pub advanced : sameMode (d .bts) (x .bts) ≡ true → P (reminded (reminds (s .functions)) (s .x) (s .y) (deskOlder (x .m) d))
     -- a window that ends, by the desk e, is closed on the desk that its miss or answer leaves
     pub main-closed : (e left : Desk) → Ends x (e .window) → P e → P left → P (withWindow closed left)
     pub side-closed : (e left : Desk) → Ends x (e .side) → P e → P left → P (withSide closed left)
@@ -72,7 +73,7 @@ module _ (s : Settings) (top : ℕ) (x : Input) (d : Desk) where
     pub side-opened : (w : Waits) (e : Desk) → isOpen w ≡ true → P e → Q (sideOpened w e)
     pub zone-opened :
         (e : Desk) → readsAt s x (atBeacon s top x d) ≡ true → x .beacon ≡ 7
-        → (zoneMet (withCode (x .beacon) (atBeacon s top x d)) && functionOn s 2) ≡ true
+        → (zoneMet (withCode (x .beacon) (atBeacon s top x d)) && zones (s .functions)) ≡ true
         → P e → Q (withWindow (opened waits.Zone zoneMiss) e)
     pub shut : (e : Desk) → readsAt s x (atBeacon s top x d) ≡ true → x .beacon ≡ 3 → P e → Q (withWindow closed e)
     -- stop, protected crossing, and beacon 3's option
@@ -88,5 +89,5 @@ module _ (s : Settings) (top : ℕ) (x : Input) (d : Desk) where
     -- after it mode and code are the sample's, read or not
     pub mode-after : stepOf s top x d .desk .bts ≡ x .bts
     pub code-after : stepOf s top x d .desk .code ≡ x .beacon
-    -- up to the brake no step touches the cause that stands
-    pub to-brake : movedOf s top x d .desk .cause ≡ d .cause
+    -- no step before its own touches the brake
+    pub to-brake : movedOf s top x d .desk .brake ≡ d .brake

@@ -7,6 +7,7 @@ use mathlib.Core.Bool.{Bool, true, false, _&&_}
 use lib.Dec.{eqb, leb, ltb}
 use Rattle.leaf.specs.Numbers.{bitOf}
 use Rattle.leaf.specs.Choosing.{pick}
+use Rattle.leaf.specs.Buttons.{beforeStopButton}
 use Rattle.signals.specs.declared.window.Waits.{Waits}
 use Rattle.signals.specs.declared.window.Waits.the-variants.{Nothing, One, Two, Five, Six, Seven, Zone, Nine, Limit}
 use Rattle.signals.specs.declared.window.Window.{Window}
@@ -49,4 +50,4 @@ pub record WindowLaws : Type 0 where
   -- the zone: "lamp and press from age 10, miss at 40"
   pub zone-exactly :
       (way : ℕ → ℕ) (k weight : ℕ)
-      → answersOf (lived way k (opened Zone zoneMiss)) weight ≡ (ltb k zoneMiss && bitOf (pick (leb zonePress k) 16 0) weight)
+      → answersOf (lived way k (opened Zone zoneMiss)) weight ≡ (ltb k zoneMiss && bitOf (pick (leb zonePress k) beforeStopButton 0) weight)
