@@ -1,5 +1,4 @@
--- Document 01, "Refusal numbers": a sample is refused with 8, 9, 10 or 11 exactly when the plain facts say so, in that order, and in no
--- other case.
+-- Which of the sample's refusals is given, and when: each test and its facts, then the order.
 use Prim.Native.Nat.{ℕ, _*_, _≤_, _<_}
 use native.Mathlib.Omega.{arith}
 use mathlib.Core.Path.{_≡_, refl, sym, _∙_}
@@ -9,6 +8,7 @@ use mathlib.Core.List.{[], _∷_}
 use lib.Dec.{leb, eqb}
 use borrow.Author.Tests.{le-leb, leb-true, leb-false, lt-leb, eqb-true, eqb-false, ne-eqb}
 use Rattle.leaf.specs.Choosing.{pick, and-split}
+use Rattle.leaf.specs.Numbers.{codeTop, buttonsTop}
 use Rattle.leaf.specs.Checks.{firstBad, orFault, FirstFault, first-fault}
 use Rattle.leaf.specs.declared.Refusal.the-variants.{Number}
 use Rattle.desk.specs.Clock.{sameMode}
@@ -16,31 +16,9 @@ use Rattle.session.specs.declared.Sample.{Sample}
 use Rattle.session.specs.declared.Session.{Session}
 use Rattle.session.specs.declared.Outcome.the-variants.{Refused}
 use Rattle.session.specs.Session.{insideOf, standstill, inBts, sampleChecks, refusedBy, carried, ranOf, sampleOf}
-use Rattle.laws.specs.Ranges.{Inside, inside-only, inside-when}
-
--- ---- the facts
-
--- "beacon 0..11, buttons newly pressed (bits 0..10), mode 1 CONV or 2 BTS"
-pub record CodesMet (x : Sample) : Type 0 where
-  pub beacon-high : x .beacon ≤ 11
-  pub buttons-high : x .buttons ≤ 2047
-  pub mode-low : 1 ≤ x .mode
-  pub mode-high : x .mode ≤ 2
-
--- the session's mode by its number: "mode 1 CONV or 2 BTS"
-abbrev pub modeOf : Session → ℕ
-modeOf s = pick (s .desk .bts) 2 1
-
--- "mode changed in a sample with pulses" is not so
-abbrev pub ModeMet : Session → Sample → Type 0
-ModeMet s x = (x .mode ≡ modeOf s) ⊎ (x .pulses ≡ 0)
-
--- a sample that is accepted
-pub record Accepted (s : Session) (x : Sample) : Type 0 where
-  pub inside : Inside s
-  pub codes : CodesMet x
-  pub slow : x .pulses * s .settings .tick ≤ 100000
-  pub kept : ModeMet s x
+use Rattle.laws.specs.Ranges.{Inside}
+use Rattle.laws.specs.Refusals.{CodesMet, ModeMet, Accepted, RefusalLaws}
+use Rattle.laws.proofs.Ranges.{inside-only, inside-when}
 
 -- ---- each test and its facts
 
@@ -53,30 +31,30 @@ not-so true h = absurd (h refl)
 not-so false h = refl
 
 -- "session out of its ranges": exactly when the facts of a session inside do not all hold
-pub outside-only : (s : Session) → insideOf s ≡ false → Inside s → ⊥
+outside-only : (s : Session) → insideOf s ≡ false → Inside s → ⊥
 outside-only s h i = apart (insideOf s) (inside-when s i) h
 
-pub outside-when : (s : Session) → (Inside s → ⊥) → insideOf s ≡ false
+outside-when : (s : Session) → (Inside s → ⊥) → insideOf s ≡ false
 outside-when s h = not-so (insideOf s) (λ e. h (inside-only s e))
 
 abbrev codesTest : Sample → Bool
-codesTest x = leb (x .beacon) 11 && leb (x .buttons) 2047 && leb 1 (x .mode) && leb (x .mode) 2
+codesTest x = leb (x .beacon) codeTop && leb (x .buttons) buttonsTop && leb 1 (x .mode) && leb (x .mode) 2
 
 codes-only : (x : Sample) → codesTest x ≡ true → CodesMet x
 codes-only x h =
-    let a = and-split (leb (x .beacon) 11 && leb (x .buttons) 2047 && leb 1 (x .mode)) (leb (x .mode) 2) h in
-    let b = and-split (leb (x .beacon) 11 && leb (x .buttons) 2047) (leb 1 (x .mode)) (a .0) in
-    let c = and-split (leb (x .beacon) 11) (leb (x .buttons) 2047) (b .0) in
+    let a = and-split (leb (x .beacon) codeTop && leb (x .buttons) buttonsTop && leb 1 (x .mode)) (leb (x .mode) 2) h in
+    let b = and-split (leb (x .beacon) codeTop && leb (x .buttons) buttonsTop) (leb 1 (x .mode)) (a .0) in
+    let c = and-split (leb (x .beacon) codeTop) (leb (x .buttons) buttonsTop) (b .0) in
     record {
-      beacon-high = leb-true (x .beacon) 11 (c .0);
-      buttons-high = leb-true (x .buttons) 2047 (c .1);
+      beacon-high = leb-true (x .beacon) codeTop (c .0);
+      buttons-high = leb-true (x .buttons) buttonsTop (c .1);
       mode-low = leb-true 1 (x .mode) (b .1);
       mode-high = leb-true (x .mode) 2 (a .1);
     }
 
 codes-when : (x : Sample) → CodesMet x → codesTest x ≡ true
 codes-when x m =
-    rw (le-leb (x .beacon) 11 (m .beacon-high), le-leb (x .buttons) 2047 (m .buttons-high), le-leb 1 (x .mode) (m .mode-low), le-leb (x .mode) 2 (m .mode-high))
+    rw (le-leb (x .beacon) codeTop (m .beacon-high), le-leb (x .buttons) buttonsTop (m .buttons-high), le-leb 1 (x .mode) (m .mode-low), le-leb (x .mode) 2 (m .mode-high))
 
 abbrev modeTest : Bool → ℕ → ℕ → Bool
 modeTest bts pulses mode = sameMode bts (inBts mode) || standstill pulses
@@ -168,8 +146,7 @@ module _ (s : Session) (x : Sample) where
   unfolding refusedBy
   by-tests = four a b c e
 
-  -- the sample is accepted exactly when all the facts hold
-  pub accepted : (refusedBy s x ≡ 0) ↔ Accepted s x
+  accepted : (refusedBy s x ≡ 0) ↔ Accepted s x
   accepted = (only, when)
     where
       only : refusedBy s x ≡ 0 → Accepted s x
@@ -188,12 +165,10 @@ module _ (s : Session) (x : Sample) where
           by-tests
           ∙ rw (inside-when s (m .inside), codes-when x (m .codes), le-leb _ _ (m .slow), mode-when (s .desk .bts) (x .pulses) (x .mode) (m .kept))
 
-  -- "8 | session out of its ranges"
-  pub refused-8 : (refusedBy s x ≡ 8) ↔ (Inside s → ⊥)
+  refused-8 : (refusedBy s x ≡ 8) ↔ (Inside s → ⊥)
   refused-8 = (λ h. outside-only s (is-8 a b c e (sym by-tests ∙ h)), λ m. by-tests ∙ rw (outside-when s m))
 
-  -- "9 | beacon, buttons or mode out of range": and the session is inside
-  pub refused-9 : (refusedBy s x ≡ 9) ↔ (Inside s × (CodesMet x → ⊥))
+  refused-9 : (refusedBy s x ≡ 9) ↔ (Inside s × (CodesMet x → ⊥))
   refused-9 = (only, when)
     where
       only : refusedBy s x ≡ 9 → Inside s × (CodesMet x → ⊥)
@@ -204,8 +179,7 @@ module _ (s : Session) (x : Sample) where
       when : Inside s × (CodesMet x → ⊥) → refusedBy s x ≡ 9
       when m = by-tests ∙ rw (inside-when s (m .0), not-so b (λ q. m .1 (codes-only x q)))
 
-  -- "10 | pulses × tick length above 100,000": and nothing before it
-  pub refused-10 : (refusedBy s x ≡ 10) ↔ (Inside s × (CodesMet x × (100000 < x .pulses * s .settings .tick)))
+  refused-10 : (refusedBy s x ≡ 10) ↔ (Inside s × (CodesMet x × (100000 < x .pulses * s .settings .tick)))
   refused-10 = (only, when)
     where
       only : refusedBy s x ≡ 10 → Inside s × (CodesMet x × (100000 < x .pulses * s .settings .tick))
@@ -216,8 +190,7 @@ module _ (s : Session) (x : Sample) where
       when : Inside s × (CodesMet x × (100000 < x .pulses * s .settings .tick)) → refusedBy s x ≡ 10
       when m = by-tests ∙ rw (inside-when s (m .0), codes-when x (m .1 .0), lt-leb _ _ (m .1 .1))
 
-  -- "11 | mode changed in a sample with pulses": and nothing before it
-  pub refused-11 : (refusedBy s x ≡ 11)
+  refused-11 : (refusedBy s x ≡ 11)
       ↔ (Inside s × (CodesMet x × ((x .pulses * s .settings .tick ≤ 100000) × (ModeMet s x → ⊥))))
   refused-11 = (only, when)
     where
@@ -239,18 +212,28 @@ module _ (s : Session) (x : Sample) where
             not-so e (λ q. m .1 .1 .1 (mode-only (s .desk .bts) (x .pulses) (x .mode) (codes .mode-low) (codes .mode-high) q)),
           )
 
-  -- "sample 8, 9, 10, 11": a number that is given is that of a check of the list that fails, and every check before it holds
-  pub first-refused : (n : ℕ) → refusedBy s x ≡ n → (n ≡ 0 → ⊥) → FirstFault n (sampleChecks s x)
+  first-refused : (n : ℕ) → refusedBy s x ≡ n → (n ≡ 0 → ⊥) → FirstFault n (sampleChecks s x)
   unfolding refusedBy
   first-refused n h z = first-fault (sampleChecks s x) n tt h z
 
-  -- "A refusal returns its number .. and leaves .. the handed-in session unchanged."
-  pub refused-as : (n : ℕ) → refusedBy s x ≡ n → (n ≡ 0 → ⊥)
+  refused-as : (n : ℕ) → refusedBy s x ≡ n → (n ≡ 0 → ⊥)
       → sampleOf s x ≡ record { session = s; outcome = Refused (Number n) }
   unfolding sampleOf
   refused-as n h z = rw (h, ne-eqb n 0 z)
 
-  -- a sample that is accepted is run
-  pub accepted-as : refusedBy s x ≡ 0 → sampleOf s x ≡ ranOf (carried s x) s
+  accepted-as : refusedBy s x ≡ 0 → sampleOf s x ≡ ranOf (carried s x) s
   unfolding sampleOf
   accepted-as h = rw h
+
+  pub refusal-laws : RefusalLaws s x
+  refusal-laws =
+      record {
+        accepted = accepted;
+        refused-8 = refused-8;
+        refused-9 = refused-9;
+        refused-10 = refused-10;
+        refused-11 = refused-11;
+        first-refused = first-refused;
+        refused-as = refused-as;
+        accepted-as = accepted-as;
+      }

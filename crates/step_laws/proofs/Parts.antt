@@ -5,7 +5,7 @@ use native.Mathlib.Omega.{arith}
 use mathlib.Core.Bool.{Bool, true, false, _&&_, _||_}
 use lib.Dec.{leb}
 use Rattle.leaf.specs.Choosing.{pick}
-use Rattle.leaf.specs.Numbers.{agedOf, furtherOf, belowOf}
+use Rattle.leaf.specs.Numbers.{ageTop, distanceTop, causeTop, agedOf, furtherOf, belowOf}
 use Rattle.signals.specs.declared.window.Waits.{Waits}
 use Rattle.signals.specs.declared.window.Window.{Window}
 use Rattle.signals.specs.declared.control.MainKind.{MainKind}
@@ -23,22 +23,16 @@ use Rattle.sides.specs.declared.crossing.CrossingOption.{CrossingOption}
 use Rattle.sides.specs.declared.limit.Limit.{Limit}
 use Rattle.sides.specs.Crossing.{noCrossing, crossingEnd, iconDistance, isProtected, isUnprotected, crossingOlder, unprotectedSet, protectedSet, turnsAt, turnedAt, noOption, optionNow, optionOlder}
 use Rattle.sides.specs.Limit.{noLimit, limitOlder, limitSet, stepped, hidden}
-use Rattle.laws.specs.Ranges.{MainIn, WindowIn, AlongsideIn, OverrideIn, ReminderIn, CrossingIn, OptionIn, LimitIn}
-
--- ---- a choice has what both its sides have
-
-pub pick-has : {A : Type 0} (P : A → Type 0) (b : Bool) {x y : A} → P x → P y → P (pick b x y)
-pick-has P true p q = p
-pick-has P false p q = q
-
--- the same of numbers and their bound
-pub pick-low : (top : ℕ) (b : Bool) {x y : ℕ} → x ≤ top → y ≤ top → pick b x y ≤ top
-pick-low top true p q = p
-pick-low top false p q = q
+use Rattle.desk.specs.declared.brake.Brake.{Brake}
+use Rattle.desk.specs.declared.beside.Beside.{Beside}
+use Rattle.desk.specs.Brake.{noBrake, brakeWithCause}
+use Rattle.desk.specs.Beside.{nothingBeside, besideWithAlongside, besideWithCrossing, besideWithLimit, besideOlder}
+use Rattle.step_laws.specs.Ranges.{BrakeIn, MainIn, WindowIn, OverrideIn, ReminderIn, OptionIn, AlongsideIn, CrossingIn, LimitIn, BesideIn}
+use Rattle.step_laws.proofs.Choosing.{pick-has, pick-low}
 
 -- ---- main
 
-pub main-of : (kind : MainKind) (age distance : ℕ) → age ≤ 30000 → distance ≤ 60000000 → MainIn (mainOf kind age distance)
+pub main-of : (kind : MainKind) (age distance : ℕ) → age ≤ ageTop → distance ≤ distanceTop → MainIn (mainOf kind age distance)
 main-of kind age distance a b = record { age = a; distance = b }
 
 pub main-fresh : (kind : MainKind) → MainIn (mainOf kind 0 0)
@@ -56,16 +50,16 @@ main-increased c h = record { age = h .age; distance = h .distance }
 pub window-closed : WindowIn closed
 window-closed = record { left = omega arith; age = omega arith; distance = omega arith }
 
-pub window-opened : (waits : Waits) (left : ℕ) → left ≤ 30000 → WindowIn (opened waits left)
+pub window-opened : (waits : Waits) (left : ℕ) → left ≤ ageTop → WindowIn (opened waits left)
 window-opened waits left h = record { left = h; age = omega arith; distance = omega arith }
 
 pub window-older : (m : ℕ) (w : Window) → WindowIn w → WindowIn (windowOlder m w)
 unfolding windowOlder
 window-older m w h = let l = h .left in record { left = omega arith; age = omega arith; distance = omega arith }
 
-pub time-left : (w : Window) (fresh : ℕ) → WindowIn w → fresh ≤ 30000 → timeLeft w fresh ≤ 30000
+pub time-left : (w : Window) (fresh : ℕ) → WindowIn w → fresh ≤ ageTop → timeLeft w fresh ≤ ageTop
 unfolding timeLeft
-time-left w fresh h f = pick-low 30000 (isOpen (w .waits)) (h .left) f
+time-left w fresh h f = pick-low ageTop (isOpen (w .waits)) (h .left) f
 
 -- ---- stop alongside, override
 
@@ -100,7 +94,7 @@ unfolding reminderOlder
 reminder-older m r h =
     record {
       age = omega arith;
-      fast = pick-low 30000 (belowOf m 500) {x = r .fast} {y = agedOf (r .fast)} (h .fast) (omega arith);
+      fast = pick-low ageTop (belowOf m 500) {x = r .fast} {y = agedOf (r .fast)} (h .fast) (omega arith);
       distance = omega arith;
     }
 
@@ -131,16 +125,16 @@ crossing-older m c = ends (leb crossingEnd (furtherOf (c .distance) m))
     ends true = crossing-none
     ends false = record { age = omega arith; distance = omega arith }
 
-pub crossing-unprotected : (age distance : ℕ) (c : Crossing) → age ≤ 30000 → distance ≤ 60000000 → CrossingIn c → CrossingIn (unprotectedSet age distance c)
+pub crossing-unprotected : (age distance : ℕ) (c : Crossing) → age ≤ ageTop → distance ≤ distanceTop → CrossingIn c → CrossingIn (unprotectedSet age distance c)
 unfolding unprotectedSet
 crossing-unprotected age distance c a b h =
-    record { age = pick-low 30000 (isUnprotected (c .kind)) {x = c .age} {y = age} (h .age) a; distance = b }
+    record { age = pick-low ageTop (isUnprotected (c .kind)) {x = c .age} {y = age} (h .age) a; distance = b }
 
-pub crossing-protected : (age distance : ℕ) (shows : Bool) (c : Crossing) → age ≤ 30000 → distance ≤ 60000000 → CrossingIn c → CrossingIn (protectedSet age distance shows c)
+pub crossing-protected : (age distance : ℕ) (shows : Bool) (c : Crossing) → age ≤ ageTop → distance ≤ distanceTop → CrossingIn c → CrossingIn (protectedSet age distance shows c)
 unfolding protectedSet
 crossing-protected age distance shows c a b h =
     pick-has CrossingIn (isUnprotected (c .kind)) h
-    (record { age = pick-low 30000 (isProtected (c .kind)) {x = c .age} {y = age} (h .age) a; distance = b })
+    (record { age = pick-low ageTop (isProtected (c .kind)) {x = c .age} {y = age} (h .age) a; distance = b })
 
 pub crossing-turned : (m : ℕ) (c : Crossing) → CrossingIn c → CrossingIn (turnedAt m c)
 unfolding turnedAt
@@ -164,12 +158,37 @@ limit-none = record { age = omega arith; steps = omega arith }
 pub limit-older : (l : Limit) → LimitIn l → LimitIn (limitOlder l)
 limit-older l h = record { age = omega arith; steps = h .steps }
 
-pub limit-set : (age : ℕ) (l : Limit) → age ≤ 30000 → LimitIn l → LimitIn (limitSet age l)
+pub limit-set : (age : ℕ) (l : Limit) → age ≤ ageTop → LimitIn l → LimitIn (limitSet age l)
 unfolding limitSet
-limit-set age l a h = record { age = pick-low 30000 (l .on) {x = l .age} {y = age} (h .age) a; steps = omega arith }
+limit-set age l a h = record { age = pick-low ageTop (l .on) {x = l .age} {y = age} (h .age) a; steps = omega arith }
 
 pub limit-stepped : (l : Limit) → LimitIn l → LimitIn (stepped l)
 limit-stepped l h = record { age = h .age; steps = omega arith }
 
 pub limit-hidden : (l : Limit) → LimitIn l → LimitIn (hidden l)
 limit-hidden l h = let s = h .steps in record { age = h .age; steps = omega arith }
+
+-- ---- the desk's parts: the brake, and what stands beside the main control
+
+pub brake-off : BrakeIn noBrake
+brake-off = record { cause = omega arith }
+
+pub brake-cause : (cause : ℕ) (b : Brake) → cause ≤ causeTop → BrakeIn b → BrakeIn (brakeWithCause cause b)
+brake-cause cause b p h = record { cause = p }
+
+pub beside-nothing : BesideIn nothingBeside
+beside-nothing = record { alongside = alongside-none; crossing = crossing-none; limit = limit-none }
+
+pub beside-older : (m : ℕ) (b : Beside) → BesideIn b → BesideIn (besideOlder m b)
+unfolding besideOlder
+beside-older m b h =
+    record { alongside = alongside-older (b .alongside); crossing = crossing-older m (b .crossing); limit = limit-older (b .limit) (h .limit) }
+
+pub beside-alongside : (x : Alongside) (b : Beside) → AlongsideIn x → BesideIn b → BesideIn (besideWithAlongside x b)
+beside-alongside x b p h = record { alongside = p; crossing = h .crossing; limit = h .limit }
+
+pub beside-crossing : (x : Crossing) (b : Beside) → CrossingIn x → BesideIn b → BesideIn (besideWithCrossing x b)
+beside-crossing x b p h = record { alongside = h .alongside; crossing = p; limit = h .limit }
+
+pub beside-limit : (x : Limit) (b : Beside) → LimitIn x → BesideIn b → BesideIn (besideWithLimit x b)
+beside-limit x b p h = record { alongside = h .alongside; crossing = h .crossing; limit = p }
