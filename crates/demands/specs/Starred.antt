@@ -3,7 +3,6 @@
 use Prim.Native.Nat.{ℕ}
 use mathlib.Core.Bool.{true, false}
 use mathlib.Core.List.{List, [], _∷_, _++_}
-use mathlib.Core.Path.{refl}
 use Rattle.leaf.specs.Answers.{Answer, given}
 use Rattle.card.specs.declared.Row.{Row}
 use Rattle.card.specs.Lines.{Line, line, Holds}
@@ -17,8 +16,7 @@ use Rattle.session.specs.declared.Session.{Session}
 use Rattle.session.specs.declared.Outcome.{Outcome}
 use Rattle.session.specs.Session.{openSession}
 use Rattle.demands.specs.Runs.{after, runFrom}
-use Rattle.demands.specs.Rides.{conv, times, endOf, answer, shows, cardA-with}
-use Rattle.demands.specs.Computes.{definitions}
+use Rattle.demands.specs.Examples.{conv, times, endOf, answer, shows, cardA-with}
 
 -- "* Row 4 of card A: age 20 gives 8000; 21 gives 7980; 220 gives 4000."
 abbrev rowLines : List Line
@@ -84,6 +82,5 @@ abbrev pub starredLines : List Line
 starredLines =
     rowLines ++ brakeLines ++ pressLines ++ crossingLines ++ zoneLines ++ increaseLines ++ limitLines ++ cardLines
 
-pub starred : Holds starredLines
-unfolding definitions
-starred = (refl, (refl, (refl, (refl, (refl, (refl, (refl, (refl, (refl, (refl, (refl, (refl, (refl, (refl, (refl, (refl, (refl, tt)))))))))))))))))
+abbrev pub Starred : Type 0
+Starred = Holds starredLines

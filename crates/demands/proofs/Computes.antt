@@ -22,7 +22,7 @@ use Rattle.session.specs.Session.{openSession, settingsInside, insideOf, refuse
 use Rattle.session.specs.Types.{typeSpeed, typeAllowed}
 use Rattle.laws.specs.Inside as made
 use Rattle.demands.specs.Runs.{outcomes}
-use Rattle.demands.specs.Speaks.{speaks1, speaks2, differingSpeaks, silentFor}
+use Rattle.demands.specs.Speaks.{meetsZone, meetsReminder, differingSpeaks, silentFor}
 
 unfoldable pub card : Unit {0}
 unfolding byte word orFault rowAt settingsFault faultOf checkSettings functionsFrom settingsFrom answerBy readCard
@@ -57,5 +57,5 @@ unfolding deskInside openSession settingsInside insideOf refusedBy ranOf sampleO
 session = tt
 
 unfoldable pub definitions : Unit {0}
-unfolding card signal-parts side-parts desk presses beacons sample session outcomes made.after speaks1 speaks2 differingSpeaks silentFor
+unfolding card signal-parts side-parts desk presses beacons sample session outcomes made.after meetsZone meetsReminder differingSpeaks silentFor
 definitions = tt

@@ -1,0 +1,111 @@
+-- Demand 3 holds, its hypotheses are met, and it is no constant desk that meets it.
+use Prim.Native.Nat.{ℕ, zero, suc, _+_, _<_}
+use native.Mathlib.Omega.{arith}
+use mathlib.Core.Bool.{Bool, true, false, _&&_, not}
+use mathlib.Core.Path.{_≡_, refl, sym, ap, _∙_}
+use mathlib.Core.List.{List, [], _∷_, _++_}
+use lib.Dec.{leb, ltb, lit≤}
+use lib.ListN.{length, List·getD-append}
+use borrow.Author.Tests.{leb-false, ltb-true}
+use Rattle.leaf.specs.Bytes.{byte}
+use Rattle.leaf.specs.Answers.{given}
+use Rattle.card.specs.declared.Settings.{Settings}
+use Rattle.card.specs.Card.{speaks}
+use Rattle.card.specs.Reading.{readCard}
+use Rattle.card.proofs.Same.{Same}
+use Rattle.card.proofs.Silence.{silence}
+use Rattle.card.proofs.Versions.{knows-1-refuses-2, same-card}
+use Rattle.step.specs.declared.Answer.{Answer}
+use Rattle.session.specs.declared.Outcome.{Outcome}
+use Rattle.session.specs.declared.Outcome.the-variants.{Answered, Refused}
+use Rattle.session.specs.declared.Sample.{Sample}
+use Rattle.printed.proofs.Silence.{print-silence}
+use Rattle.demands.specs.Runs.{rideOf, firstOf}
+use Rattle.demands.specs.Speaks.{untilSpeaks}
+use Rattle.demands.specs.Examples.{settings-R, settings-P, card-R}
+use Rattle.demands.specs.Demand3.{SameSpeaking, Demand3, HypothesesMet, Partings}
+use Rattle.demands.proofs.Later.{later}
+use Rattle.demands.proofs.Cards.{its-settings, its-range, common, rides-alike}
+use Rattle.demands.proofs.Computes.{card, definitions}
+
+-- ---- the demand
+
+module _ (a b : List ℕ) (h g : ℕ) (s t : Settings) (read-a : readCard a h ≡ given s) (read-b : readCard b g ≡ given t) (same : Same a b 3 39) where
+  same-rides : byte a 2 ≡ 1 → byte b 2 ≡ 2 → byte b 39 ≡ 0 → (train : ℕ) (xs : List Sample) → rideOf a h train xs ≡ rideOf b g train xs
+  same-rides one two none train xs =
+      let e : s ≡ t = its-settings a h s read-a ∙ same-card a b one two same none ∙ sym (its-settings b g t read-b) in
+      rw (read-a, read-b, e)
+
+  alike-rides : (train : ℕ) (xs : List Sample) → firstOf (untilSpeaks s t train xs) (rideOf a h train xs) ≡ firstOf (untilSpeaks s t train xs) (rideOf b g train xs)
+  alike-rides train xs =
+      let e : t ≡ later s t = rw (its-settings a h s read-a, its-settings b g t read-b) (common a b same) in
+      rw (read-a, read-b, e) (rides-alike s t train xs (its-range a h s read-a) (rw e at (its-range b g t read-b)))
+
+pub demand-3 : Demand3
+demand-3 =
+    record {
+      silent-bytes = λ a b h m. let e = silence a b h (m .whole-a) (m .whole-b) (m .same) in (sym e, λ train xs. rw e);
+      versions-silent = λ a b h g s t read-a read-b one two same none. same-rides a b h g s t read-a read-b same one two none;
+      functions-silent = alike-rides;
+      version-2-refused = λ area long two. let e = knows-1-refuses-2 area long two in (e, λ train xs. rw e);
+      silent-print = λ columns a b recording m. print-silence columns a b recording (m .whole-a) (m .whole-b) (m .same);
+    }
+
+-- ---- its hypotheses: areas that share a front, or all but their first three bytes
+
+front-same : (l r t : List ℕ) (i : ℕ) → i < length l → byte (l ++ r) i ≡ byte (l ++ t) i
+unfolding byte
+front-same l r t i h = List·getD-append l r 0 i h ∙ sym (List·getD-append l t 0 i h)
+
+behind-same : (a b c d e f : ℕ) (l r t : List ℕ) → Same (a ∷ b ∷ c ∷ (l ++ r)) (d ∷ e ∷ f ∷ (l ++ t)) 3 (3 + length l)
+unfolding byte
+behind-same a b c d e f l r t zero low high = absurd (omega arith)
+behind-same a b c d e f l r t (suc zero) low high = absurd (omega arith)
+behind-same a b c d e f l r t (suc (suc zero)) low high = absurd (omega arith)
+behind-same a b c d e f l r t (suc (suc (suc i))) low high = front-same l r t i (omega arith)
+
+-- with bit 2 off, what speaks stands before byte 40
+speaks-early : (i : ℕ) → speaks 2 0x0B i ≡ true → i < 40
+unfolding speaks
+speaks-early i h = cases (leb 40 i) refl (ltb i 44) refl (leb i 43) refl h
+  where
+    cases : (t : Bool) → leb 40 i ≡ t → (u : Bool) → ltb i 44 ≡ u → (v : Bool) → leb i 43 ≡ v → (u && not (t && v)) ≡ true → i < 40
+    cases false e u k v l h = leb-false 40 i e
+    cases true e true k true l h = absurd (let z : _≡_ {A = ℕ} 0 1 = cc in omega arith)
+    cases true e true k false l h = let p = ltb-true i 44 k in let q = leb-false i 43 l in omega arith
+    cases true e false k v l h = absurd (let z : _≡_ {A = ℕ} 0 1 = cc in omega arith)
+
+pub hypotheses-met : HypothesesMet
+unfolding card
+hypotheses-met =
+    record {
+      same-speaking = record {
+        whole-a = lit≤ tt;
+        whole-b = lit≤ tt;
+        same = λ i s.
+            front-same (card-R (0x0B ∷ [])) (0x00 ∷ 0x00 ∷ 0x00 ∷ 0x00 ∷ []) (0xFF ∷ 0xFF ∷ 0x17 ∷ 0x70 ∷ 0x0F ∷ 0x00 ∷ 0xC8 ∷ 0x01 ∷ 0xF4 ∷ []) i (speaks-early i s);
+      };
+      reads-quiet = refl;
+      reads-1 = refl;
+      reads-2 = refl;
+      same-P = behind-same 0x00 0x27 0x01 0x00 0x2C 0x02 settings-P [] (0x00 ∷ 0x00 ∷ 0x00 ∷ 0x00 ∷ 0x00 ∷ []);
+      reads-R = refl;
+      same-R = behind-same 0x00 0x2C 0x02 0x00 0x2C 0x02 settings-R (0x0F ∷ 0x00 ∷ 0xC8 ∷ 0x01 ∷ 0xF4 ∷ []) (0x0B ∷ 0x00 ∷ 0x00 ∷ 0x00 ∷ 0x00 ∷ []);
+    }
+
+-- ---- where cards part
+
+-- a number of an answer
+abbrev numberOf : (Answer → ℕ) → Outcome → ℕ
+numberOf f (Answered a) = f a
+numberOf f (Refused why) = 0
+
+pub partings : Partings
+unfolding definitions
+partings =
+    record {
+      crossing-parts = record { speaks-at = refl; answers-a = refl; answers-b = refl; part = λ e. omega (arith, ap (numberOf (λ a. a .icon)) e) };
+      zone-parts = record { speaks-at = refl; answers-a = refl; answers-b = refl; part = λ e. omega (arith, ap (numberOf (λ a. a .speed)) e) };
+      reminder-parts = record { speaks-at = refl; answers-a = refl; answers-b = refl; part = λ e. omega (arith, ap (numberOf (λ a. a .lamps)) e) };
+      bts-parts = record { speaks-at = refl; answers-a = refl; answers-b = refl; part = λ e. omega (arith, ap (numberOf (λ a. a .lamps)) e) };
+    }

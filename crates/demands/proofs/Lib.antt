@@ -1,0 +1,9 @@
+pub mod Computes
+pub mod Demand1
+pub mod Demand2
+pub mod Later
+pub mod Apart
+pub mod Alike
+pub mod Cards
+pub mod Demand3
+pub mod Starred
