@@ -6,4 +6,6 @@ pub mod Apart
 pub mod Alike
 pub mod Cards
 pub mod Demand3
+pub mod ShutOut
 pub mod Starred
+pub mod Lazy

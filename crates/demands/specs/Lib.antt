@@ -7,3 +7,4 @@ pub mod Demand3
 pub mod ShutOut
 pub mod Starred
 pub mod Kept
+pub mod Lazy

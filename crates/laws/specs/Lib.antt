@@ -9,4 +9,3 @@ pub mod Windows
 pub mod Once
 pub mod Speed
 pub mod Brake
-pub mod NoToy
