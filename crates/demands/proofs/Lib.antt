@@ -5,6 +5,7 @@ pub mod Later
 pub mod Apart
 pub mod Alike
 pub mod Cards
+pub mod Lines
 pub mod Demand3
 pub mod ShutOut
 pub mod Starred

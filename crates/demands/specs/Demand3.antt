@@ -4,11 +4,13 @@
 --
 -- Stated of the sessions that demand 2 defines: `rideOf area highest train xs` is all that a desk answers
 -- with this card, a reader told to know the versions up to `highest`, this train type, and these samples.
-use Prim.Native.Nat.{ℕ, _≤_}
+use Prim.Native.Nat.{ℕ, zero, suc, _≤_}
 use mathlib.Core.Bool.{true, false}
 use mathlib.Core.Path.{_≡_}
 use mathlib.Core.List.{List, [], _∷_, _++_}
+use lib.Dec.{eqb}
 use lib.ListN.{length}
+use Rattle.leaf.specs.Choosing.{pick}
 use Rattle.leaf.specs.Bytes.{byte}
 use Rattle.leaf.specs.Answers.{given, refused}
 use Rattle.card.specs.declared.Settings.{Settings}
@@ -17,6 +19,7 @@ use Rattle.card.specs.Reading.{settingsOf, readCard}
 use Rattle.card.proofs.Same.{Same}
 use Rattle.session.specs.declared.Sample.{Sample}
 use Rattle.session.specs.declared.Outcome.{Outcome}
+use Rattle.text.specs.Decimal.{newline}
 use Rattle.printed.specs.declared.Columns.{Columns}
 use Rattle.printed.specs.Printed.{printedRide}
 use Rattle.demands.specs.Runs.{rideOf, firstOf}
@@ -28,6 +31,12 @@ pub record SameSpeaking (a b : List ℕ) : Type 0 where
   pub whole-a : lengthOf (byte a 2) ≤ length a
   pub whole-b : lengthOf (byte a 2) ≤ length b
   pub same : (i : ℕ) → speaks (byte a 2) (byte a 39) i ≡ true → byte a i ≡ byte b i
+
+-- the first n lines of a text: up to and with its n-th newline, or all of it
+unfoldable pub firstLines : List ℕ → ℕ → List ℕ
+firstLines [] n = []
+firstLines (b ∷ rest) zero = []
+firstLines (b ∷ rest) (suc n) = b ∷ firstLines rest (pick (eqb b newline) n (suc n))
 
 pub record Demand3 : Type 0 where
   -- 3a. The same speaking bytes: the same reader reads both areas alike, as the same settings or refused the same; and the answers are the
