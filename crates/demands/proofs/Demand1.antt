@@ -32,8 +32,8 @@ use Rattle.rides.specs.Recording.{goodRecording}
 use Rattle.rides.specs.Ride.{startRide}
 use Rattle.rides.proofs.Recordings.{RecordingMet, good-met, met-good}
 use Rattle.laws.specs.OutOfRange as law
-use Rattle.demands.specs.Demand1.{Exactly, SheetDue, ToneDue, SampleDue, Demand1}
-use Rattle.demands.specs.Demand1 as due
+use Rattle.demands.specs.Demand1.{Exactly, SheetReadAs, ClassifiedAs, SampledAs, Demand1}
+use Rattle.demands.specs.Demand1 as paper
 
 -- what is due to an input, where one thing always is and no other
 exactly : {A : Type 0} {answer : A} (Due : A → Type 0) → Due answer → ((a : A) → Due a → answer ≡ a) → Exactly answer Due
@@ -41,14 +41,14 @@ exactly Due is only a = (λ e. rw e at is, only a)
 
 -- ---- sheet and tone
 
-sheet-due : (area : List ℕ) (a : Answer Sheet) → readSheet area ≡ a → SheetDue area a
-sheet-due area (given sheet) e = let p = tone.accepted area sheet e in rw (p .1) (due.SheetDue.read (p .0))
+sheet-due : (area : List ℕ) (a : Answer Sheet) → readSheet area ≡ a → SheetReadAs area a
+sheet-due area (given sheet) e = let p = tone.accepted area sheet e in rw (p .1) (paper.SheetReadAs.read (p .0))
 sheet-due area (refused n) e = absurd (tone.never-bare area n e)
-sheet-due area (refusedAt n place) e = let p = tone.refused-first area n place e in rw (p .0) (due.SheetDue.refused-12 place (p .1))
+sheet-due area (refusedAt n place) e = let p = tone.refused-first area n place e in rw (p .0) (paper.SheetReadAs.refused-12 place (p .1))
 
-due-sheet : (area : List ℕ) (a : Answer Sheet) → SheetDue area a → readSheet area ≡ a
-due-sheet area a (due.SheetDue.refused-12 place f) = tone.first-refused area place f
-due-sheet area a (due.SheetDue.read m) = tone.accepts area m
+due-sheet : (area : List ℕ) (a : Answer Sheet) → SheetReadAs area a → readSheet area ≡ a
+due-sheet area a (paper.SheetReadAs.refused-12 place f) = tone.first-refused area place f
+due-sheet area a (paper.SheetReadAs.read m) = tone.accepts area m
 
 -- a number that the classifier gives alone is the reader's
 bare : (area : List ℕ) (t : Float) (n : ℕ) → classifyOf area t ≡ refused n → readSheet area ≡ refused n
@@ -60,14 +60,14 @@ bare area t n e = go (readSheet area) e
     go (refused m) q = cc
     go (refusedAt m p) q = cc
 
-tone-due : (area : List ℕ) (t : Float) (a : Answer Reading) → classifyOf area t ≡ a → ToneDue area t a
-tone-due area t (given reading) e = let p = tone.classified area t reading e in rw (p .1) (due.ToneDue.reads (p .0))
+tone-due : (area : List ℕ) (t : Float) (a : Answer Reading) → classifyOf area t ≡ a → ClassifiedAs area t a
+tone-due area t (given reading) e = let p = tone.classified area t reading e in rw (p .1) (paper.ClassifiedAs.reads (p .0))
 tone-due area t (refused n) e = absurd (tone.never-bare area n (bare area t n e))
-tone-due area t (refusedAt n place) e = let p = tone.classifier-first area t n place e in rw (p .0) (due.ToneDue.refused-12 place (p .1))
+tone-due area t (refusedAt n place) e = let p = tone.classifier-first area t n place e in rw (p .0) (paper.ClassifiedAs.refused-12 place (p .1))
 
-due-tone : (area : List ℕ) (t : Float) (a : Answer Reading) → ToneDue area t a → classifyOf area t ≡ a
-due-tone area t a (due.ToneDue.refused-12 place f) = tone.first-classifier area t place f
-due-tone area t a (due.ToneDue.reads m) = tone.classifies area t m
+due-tone : (area : List ℕ) (t : Float) (a : Answer Reading) → ClassifiedAs area t a → classifyOf area t ≡ a
+due-tone area t a (paper.ClassifiedAs.refused-12 place f) = tone.first-classifier area t place f
+due-tone area t a (paper.ClassifiedAs.reads m) = tone.classifies area t m
 
 -- ---- opening
 
@@ -121,12 +121,12 @@ recording-bad s recording none = cases (goodRecording recording) refl
 
 -- ---- a sample
 
-due-sample : (s : Session) (x : Sample) (a : Sampled) → SampleDue s x a → sampleOf s x ≡ a
-due-sample s x a (due.SampleDue.refused-8 out) = law.refused-as s x 8 (law.refused-8 s x .1 out) (λ z. omega arith)
-due-sample s x a (due.SampleDue.refused-9 i c) = law.refused-as s x 9 (law.refused-9 s x .1 (i, c)) (λ z. omega arith)
-due-sample s x a (due.SampleDue.refused-10 i c f) = law.refused-as s x 10 (law.refused-10 s x .1 (i, (c, f))) (λ z. omega arith)
-due-sample s x a (due.SampleDue.refused-11 i c f m) = law.refused-as s x 11 (law.refused-11 s x .1 (i, (c, (f, m)))) (λ z. omega arith)
-due-sample s x a (due.SampleDue.answered i c f m) = law.accepted-as s x (law.accepted s x .1 (record { inside = i; codes = c; slow = f; kept = m }))
+due-sample : (s : Session) (x : Sample) (a : Sampled) → SampledAs s x a → sampleOf s x ≡ a
+due-sample s x a (paper.SampledAs.refused-8 out) = law.refused-as s x 8 (law.refused-8 s x .1 out) (λ z. omega arith)
+due-sample s x a (paper.SampledAs.refused-9 i c) = law.refused-as s x 9 (law.refused-9 s x .1 (i, c)) (λ z. omega arith)
+due-sample s x a (paper.SampledAs.refused-10 i c f) = law.refused-as s x 10 (law.refused-10 s x .1 (i, (c, f))) (λ z. omega arith)
+due-sample s x a (paper.SampledAs.refused-11 i c f m) = law.refused-as s x 11 (law.refused-11 s x .1 (i, (c, (f, m)))) (λ z. omega arith)
+due-sample s x a (paper.SampledAs.answered i c f m) = law.accepted-as s x (law.accepted s x .1 (record { inside = i; codes = c; slow = f; kept = m }))
 
 -- one of four checks that fails gives its number, and no other is given
 among : (P : ℕ → Type 0) → P 0 → P 8 → P 9 → P 10 → P 11 → (a b c e : Bool) → P (firstBad 0 ((8, a) ∷ (9, b) ∷ (10, c) ∷ (11, e) ∷ []))
@@ -137,15 +137,15 @@ among P p0 p8 p9 p10 p11 true true false e = p10
 among P p0 p8 p9 p10 p11 true true true false = p11
 among P p0 p8 p9 p10 p11 true true true true = p0
 
-sample-is : (s : Session) (x : Sample) → SampleDue s x (sampleOf s x)
+sample-is : (s : Session) (x : Sample) → SampledAs s x (sampleOf s x)
 unfolding refusedBy
 sample-is s x =
-    among (λ n. refusedBy s x ≡ n → SampleDue s x (sampleOf s x))
-    (λ h. let m = law.accepted s x .0 h in rw (law.accepted-as s x h) (due.SampleDue.answered (m .inside) (m .codes) (m .slow) (m .kept)))
-    (λ h. rw (law.refused-as s x 8 h (λ z. omega arith)) (due.SampleDue.refused-8 (law.refused-8 s x .0 h)))
-    (λ h. let m = law.refused-9 s x .0 h in rw (law.refused-as s x 9 h (λ z. omega arith)) (due.SampleDue.refused-9 (m .0) (m .1)))
-    (λ h. let m = law.refused-10 s x .0 h in rw (law.refused-as s x 10 h (λ z. omega arith)) (due.SampleDue.refused-10 (m .0) (m .1 .0) (m .1 .1)))
-    (λ h. let m = law.refused-11 s x .0 h in rw (law.refused-as s x 11 h (λ z. omega arith)) (due.SampleDue.refused-11 (m .0) (m .1 .0) (m .1 .1 .0) (m .1 .1 .1)))
+    among (λ n. refusedBy s x ≡ n → SampledAs s x (sampleOf s x))
+    (λ h. let m = law.accepted s x .0 h in rw (law.accepted-as s x h) (paper.SampledAs.answered (m .inside) (m .codes) (m .slow) (m .kept)))
+    (λ h. rw (law.refused-as s x 8 h (λ z. omega arith)) (paper.SampledAs.refused-8 (law.refused-8 s x .0 h)))
+    (λ h. let m = law.refused-9 s x .0 h in rw (law.refused-as s x 9 h (λ z. omega arith)) (paper.SampledAs.refused-9 (m .0) (m .1)))
+    (λ h. let m = law.refused-10 s x .0 h in rw (law.refused-as s x 10 h (λ z. omega arith)) (paper.SampledAs.refused-10 (m .0) (m .1 .0) (m .1 .1)))
+    (λ h. let m = law.refused-11 s x .0 h in rw (law.refused-as s x 11 h (λ z. omega arith)) (paper.SampledAs.refused-11 (m .0) (m .1 .0) (m .1 .1 .0) (m .1 .1 .1)))
     _ _ _ _ refl
 
 pub demand-1 : Demand1
@@ -163,7 +163,7 @@ demand-1 =
       open-refused-at = open-place;
       recording-answered = recording-opens;
       recording-refused = recording-bad;
-      sheets = λ area. exactly (SheetDue area) (sheet-due area _ refl) (due-sheet area);
-      tones = λ area t. exactly (ToneDue area t) (tone-due area t _ refl) (due-tone area t);
-      samples = λ s x. exactly (SampleDue s x) (sample-is s x) (due-sample s x);
+      sheets = λ area. exactly (SheetReadAs area) (sheet-due area _ refl) (due-sheet area);
+      tones = λ area t. exactly (ClassifiedAs area t) (tone-due area t _ refl) (due-tone area t);
+      samples = λ s x. exactly (SampledAs s x) (sample-is s x) (due-sample s x);
     }

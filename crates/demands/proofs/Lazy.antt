@@ -16,8 +16,8 @@ use Rattle.session.specs.declared.Outcome.{Outcome}
 use Rattle.session.specs.declared.Outcome.the-variants.{Answered, Refused}
 use Rattle.session.specs.Session.{freshSession, sampleOf}
 use Rattle.demands.specs.Examples.{conv, shows}
-use Rattle.demands.specs.Demand1.{SampleDue}
-use Rattle.demands.specs.Demand1 as due
+use Rattle.demands.specs.Demand1.{SampledAs}
+use Rattle.demands.specs.Demand1 as paper
 use Rattle.demands.specs.ShutOut.{Logic, document01, Equals, answersIn, All, OneSpeed, Repeated, Repeats}
 use Rattle.demands.specs.Lazy.{mapped, verdict, RefusesAlike, at8000, eightThousand, again, firstAgain, repeater, LogicsOut, speedTold, OneSpeedOfAll, RepeatsAll, constantly, LogicsMissed}
 use Rattle.demands.proofs.Computes.{definitions}
@@ -107,12 +107,12 @@ refuses = refl
 always-refused : (s : Session) → verdict (sampleOf s beacon-12 .outcome) ≡ given tt → ⊥
 always-refused s h = cases (sampleOf s beacon-12) (demand-1 .samples s beacon-12 _ .0 refl) h
   where
-    cases : (r : Sampled) → SampleDue s beacon-12 r → verdict (r .outcome) ≡ given tt → ⊥
-    cases r (due.SampleDue.refused-8 out) h = let z : _≡_ {A = ℕ} 0 1 = cc in omega arith
-    cases r (due.SampleDue.refused-9 i c) h = let z : _≡_ {A = ℕ} 0 1 = cc in omega arith
-    cases r (due.SampleDue.refused-10 i c f) h = let z : _≡_ {A = ℕ} 0 1 = cc in omega arith
-    cases r (due.SampleDue.refused-11 i c f m) h = let z : _≡_ {A = ℕ} 0 1 = cc in omega arith
-    cases r (due.SampleDue.answered i c f m) h = omega (arith, c .beacon-high)
+    cases : (r : Sampled) → SampledAs s beacon-12 r → verdict (r .outcome) ≡ given tt → ⊥
+    cases r (paper.SampledAs.refused-8 out) h = let z : _≡_ {A = ℕ} 0 1 = cc in omega arith
+    cases r (paper.SampledAs.refused-9 i c) h = let z : _≡_ {A = ℕ} 0 1 = cc in omega arith
+    cases r (paper.SampledAs.refused-10 i c f) h = let z : _≡_ {A = ℕ} 0 1 = cc in omega arith
+    cases r (paper.SampledAs.refused-11 i c f m) h = let z : _≡_ {A = ℕ} 0 1 = cc in omega arith
+    cases r (paper.SampledAs.answered i c f m) h = omega (arith, c .beacon-high)
 
 pub logics-missed : LogicsMissed
 logics-missed =

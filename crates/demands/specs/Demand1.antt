@@ -41,14 +41,14 @@ Exactly {A} answer Due = (a : A) → (answer ≡ a) ↔ Due a
 
 -- ---- a tone sheet, and a tone: "12 | tone sheet bad, with place"
 
-pub data SheetDue (area : List ℕ) : Answer Sheet → Type 0 where
-  refused-12 : (place : ℕ) → sheet.FirstFault area place → SheetDue area (refusedAt 12 place)
-  read : sheet.Accepted area → SheetDue area (given (sheetOf area))
+pub data SheetReadAs (area : List ℕ) : Answer Sheet → Type 0 where
+  refused-12 : (place : ℕ) → sheet.FirstFault area place → SheetReadAs area (refusedAt 12 place)
+  read : sheet.Accepted area → SheetReadAs area (given (sheetOf area))
 
 -- "in that order, from the classifier too"
-pub data ToneDue (area : List ℕ) (tone : Float) : Answer Reading → Type 0 where
-  refused-12 : (place : ℕ) → sheet.FirstFault area place → ToneDue area tone (refusedAt 12 place)
-  reads : sheet.Accepted area → ToneDue area tone (given (readFrom 0 (rowsOf area 12) tone))
+pub data ClassifiedAs (area : List ℕ) (tone : Float) : Answer Reading → Type 0 where
+  refused-12 : (place : ℕ) → sheet.FirstFault area place → ClassifiedAs area tone (refusedAt 12 place)
+  reads : sheet.Accepted area → ClassifiedAs area tone (given (readFrom 0 (rowsOf area 12) tone))
 
 -- ---- a session and a sample: "sample 8, 9, 10, 11"
 
@@ -56,16 +56,16 @@ pub data ToneDue (area : List ℕ) (tone : Float) : Answer Reading → Type 0 wh
 abbrev pub refusalBy : ℕ → Session → Sampled
 refusalBy n s = record { session = s; outcome = Refused (Number n) }
 
-pub data SampleDue (s : Session) (x : Sample) : Sampled → Type 0 where
+pub data SampledAs (s : Session) (x : Sample) : Sampled → Type 0 where
   -- "session out of its ranges"
-  refused-8 : (Inside s → ⊥) → SampleDue s x (refusalBy 8 s)
+  refused-8 : (Inside s → ⊥) → SampledAs s x (refusalBy 8 s)
   -- "beacon, buttons or mode out of range"
-  refused-9 : Inside s → (CodesMet x → ⊥) → SampleDue s x (refusalBy 9 s)
+  refused-9 : Inside s → (CodesMet x → ⊥) → SampledAs s x (refusalBy 9 s)
   -- "pulses × tick length above 100,000"
-  refused-10 : Inside s → CodesMet x → 100000 < x .pulses * s .settings .tick → SampleDue s x (refusalBy 10 s)
+  refused-10 : Inside s → CodesMet x → 100000 < x .pulses * s .settings .tick → SampledAs s x (refusalBy 10 s)
   -- "mode changed in a sample with pulses"
-  refused-11 : Inside s → CodesMet x → x .pulses * s .settings .tick ≤ 100000 → (ModeMet s x → ⊥) → SampleDue s x (refusalBy 11 s)
-  answered : Inside s → CodesMet x → x .pulses * s .settings .tick ≤ 100000 → ModeMet s x → SampleDue s x (ranOf (carried s x) s)
+  refused-11 : Inside s → CodesMet x → x .pulses * s .settings .tick ≤ 100000 → (ModeMet s x → ⊥) → SampledAs s x (refusalBy 11 s)
+  answered : Inside s → CodesMet x → x .pulses * s .settings .tick ≤ 100000 → ModeMet s x → SampledAs s x (ranOf (carried s x) s)
 
 pub record Demand1 : Type 0 where
   -- a card, and a reader's highest version
@@ -87,6 +87,6 @@ pub record Demand1 : Type 0 where
   -- a recording
   pub recording-answered : (s : Settings) (recording : List ℕ) (n : ℕ) → RecordingMet recording n → startRide s recording ≡ openSession s (byte recording 5)
   pub recording-refused : (s : Settings) (recording : List ℕ) → ((n : ℕ) → RecordingMet recording n → ⊥) → startRide s recording ≡ refused 14
-  pub sheets : (area : List ℕ) → Exactly (readSheet area) (SheetDue area)
-  pub tones : (area : List ℕ) (tone : Float) → Exactly (classifyOf area tone) (ToneDue area tone)
-  pub samples : (s : Session) (x : Sample) → Exactly (sampleOf s x) (SampleDue s x)
+  pub sheets : (area : List ℕ) → Exactly (readSheet area) (SheetReadAs area)
+  pub tones : (area : List ℕ) (tone : Float) → Exactly (classifyOf area tone) (ClassifiedAs area tone)
+  pub samples : (s : Session) (x : Sample) → Exactly (sampleOf s x) (SampledAs s x)
