@@ -4,7 +4,7 @@ use Prim.Native.Nat.{ℕ}
 use mathlib.Core.Bool.{Bool, true, false, _&&_, _||_, not}
 use lib.Dec.{eqb}
 use Rattle.leaf.specs.Choosing.{pick}
-use Rattle.leaf.specs.Numbers.{within}
+use Rattle.leaf.specs.Numbers.{within, codeTop}
 use Rattle.signals.specs.declared.window.Waits.{Waits}
 use Rattle.signals.specs.declared.window.Waits.the-variants as waits
 use Rattle.signals.specs.declared.control.MainKind.{MainKind}
@@ -22,7 +22,7 @@ use Rattle.desk.specs.Clock.{mainCounts, sideCounts}
 
 -- "beacon 0..11": every code but 0 is that of a beacon
 abbrev pub isBeacon : ℕ → Bool
-isBeacon code = within 1 11 code
+isBeacon code = within 1 codeTop code
 
 -- "Beacons are not read save function 3's": "BTS reads beacons 4, 9, 10, 11"
 abbrev pub isSide : ℕ → Bool
@@ -30,7 +30,7 @@ isSide code = eqb code 4 || eqb code 9 || eqb code 10 || eqb code 11
 
 -- "A beacon is read when its code differs from that of the accepted sample before, of either mode, read or not."
 unfoldable pub readsOf : ℕ → Bool → Bool → ℕ → Bool
-readsOf code function3 bts last = isBeacon code && not (eqb code last) && (not bts || isSide code && function3)
+readsOf code readsInBts bts last = isBeacon code && not (eqb code last) && (not bts || isSide code && readsInBts)
 
 -- ---- windows: "A reading on an open window takes its place, pressed from the next sample to the older one's miss"
 
@@ -57,11 +57,11 @@ optionOffered false d = d
 
 -- "3 sets clear (no main limit)"; "Beacons 3 and 8 displace the main window and open none (house)."
 unfoldable pub reading3 : Bool → Desk → Desk
-reading3 function0 d = optionOffered function0 (withWindow closed (takenOver main.Clear 0 0 (mainCounts d)))
+reading3 protects d = optionOffered protects (withWindow closed (takenOver main.Clear 0 0 (mainCounts d)))
 
 -- "With function 0, beacon 4, .., sets protected"; its icon is not shown at once
 unfoldable pub reading4 : Bool → Desk → Desk
-reading4 true d = withCrossing (protectedSet 0 0 false (d .crossing)) d
+reading4 true d = withCrossing (protectedSet 0 0 false (d .beside .crossing)) d
 reading4 false d = d
 
 -- "Stop zone (function 1): beacon 7 read while row 4 is main and under 80 m from its reading sets 10 km/h; its window alone starts afresh
@@ -70,12 +70,12 @@ abbrev pub zoneOr : Bool → Desk → Desk
 zoneOr true d = withWindow (opened waits.Zone zoneMiss) (takenOver main.Zone 0 0 d)
 zoneOr false d = mainOpened waits.Seven (takenOver main.BeforeStop 0 0 d)
 
--- the stop-zone rule, whatever function 1 says
+-- the stop-zone rule, whatever the function says
 unfoldable pub zoneMet : Desk → Bool
 zoneMet d = nearOf (mainCounts d .main)
 
 unfoldable pub reading7 : Bool → Desk → Desk
-reading7 function1 d = zoneOr (zoneMet d && function1) (mainCounts d)
+reading7 zones d = zoneOr (zoneMet d && zones) (mainCounts d)
 
 -- the stop's reminder: due for "the stop of a beacon 8 passed under override"
 abbrev pub remindedAfter : Bool → Reminder
@@ -102,25 +102,25 @@ readingLimit d = sideOpened waits.Limit (limitNow 0 (sideCounts d))
 
 -- a beacon of this code, 1..11, acts
 unfoldable pub readingOf : ℕ → Bool → Bool → Desk → Desk
-readingOf code function0 function1 d =
+readingOf code protects zones d =
     pick (eqb code 1) (reading1 d)
     (pick (eqb code 2) (readingRow main.ConditionalClear waits.Two d)
-    (pick (eqb code 3) (reading3 function0 d)
-    (pick (eqb code 4) (reading4 function0 d)
+    (pick (eqb code 3) (reading3 protects d)
+    (pick (eqb code 4) (reading4 protects d)
     (pick (eqb code 5) (readingRow main.Preannouncement waits.Five d)
     (pick (eqb code 6) (readingRow main.Caution waits.Six d)
-    (pick (eqb code 7) (reading7 function1 d)
+    (pick (eqb code 7) (reading7 zones d)
     (pick (eqb code 8) (reading8 d) (pick (eqb code 9) (reading9 d) (readingLimit d)))))))))
 
 unfoldable pub readIf : Bool → ℕ → Bool → Bool → Desk → Desk
-readIf true code function0 function1 d = readingOf code function0 function1 d
-readIf false code function0 function1 d = d
+readIf true code protects zones d = readingOf code protects zones d
+readIf false code protects zones d = d
 
 -- the beacon's step: its code is remembered, read or not; "beacon 8 without armed override is cause 4"
 unfoldable pub beaconTaken : ℕ → Bool → Bool → Bool → Desk → Turn
-beaconTaken code function0 function1 function3 d =
-    let reads : Bool = readsOf code function3 (d .bts) (d .code) in
+beaconTaken code protects zones readsInBts d =
+    let reads : Bool = readsOf code readsInBts (d .bts) (d .code) in
     record {
-      desk = readIf reads code function0 function1 (withCode code d);
+      desk = readIf reads code protects zones (withCode code d);
       cause = pick (reads && eqb code 8 && not (d .armed .armed)) 4 0;
     }

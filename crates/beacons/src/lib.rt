@@ -3,6 +3,7 @@ use desk::clock::Turn;
 use desk::clock::count_main;
 use desk::clock::count_side;
 use desk::state::Desk;
+use leaf::CODE_TOP;
 use sides::crossing::CrossingOption;
 use signals::control::Main;
 use signals::control::MainKind;
@@ -10,8 +11,10 @@ use signals::stop::Alongside;
 use signals::stop::Override;
 use signals::stop::Phase;
 use signals::stop::Reminder;
+use signals::window::MISS_TIME;
 use signals::window::Waits;
 use signals::window::Window;
+use signals::window::ZONE_MISS;
 ghost use mathlib.Core.Path.{_≡_};
 ghost use Rattle.beacons.specs.Beacons.{isBeacon, isSide, readsOf, mainOpened, sideOpened, reading1, readingRow, optionOffered, reading3, reading4, reading7, remindedAfter, stopped, reading8, reading9, readingLimit, readingOf, readIf, beaconTaken};
 
@@ -19,10 +22,10 @@ ghost use Rattle.beacons.specs.Beacons.{isBeacon, isSide, readsOf, mainO
 fn is_beacon(code: u8) -> bool
     ensures { λ r. ⌜ r ≡ isBeacon code ⌝ }
 {
-    (1 <= code) & (code <= 11)
+    (1 <= code) & (code <= CODE_TOP)
 }
 
-// Is it a beacon that BTS reads with function 3.
+// Is it a beacon that BTS reads where the card has that function.
 fn is_side(code: u8) -> bool
     ensures { λ r. ⌜ r ≡ isSide code ⌝ }
 {
@@ -41,12 +44,12 @@ fn reminder_after(armed: bool) -> Reminder
 }
 
 // Is a beacon of this code read.
-fn reads(d: Desk, code: u8, function_3: bool) -> bool
-    ensures { λ r. ⌜ r ≡ readsOf code function_3 (d .bts) (d .code) ⌝ }
+fn reads(d: Desk, code: u8, reads_in_bts: bool) -> bool
+    ensures { λ r. ⌜ r ≡ readsOf code reads_in_bts (d .bts) (d .code) ⌝ }
 {
     let beacon = is_beacon(code);
     let side = is_side(code);
-    beacon & !(code == d.code) & (!d.bts | (side & function_3))
+    beacon & !(code == d.code) & (!d.bts | (side & reads_in_bts))
 }
 
 // A main window for this reading, in the place of the one that is open.
@@ -54,14 +57,14 @@ fn open_main(d: Desk, waits: Waits) -> Desk
     ensures { λ r. ⌜ r ≡ mainOpened waits d ⌝ }
 {
     let window = d.window;
-    d.with_window(Window::opened(waits, window.time_left(30)))
+    d.with_window(Window::opened(waits, window.time_left(MISS_TIME)))
 }
 
 fn open_side(d: Desk, waits: Waits) -> Desk
     ensures { λ r. ⌜ r ≡ sideOpened waits d ⌝ }
 {
     let side = d.side;
-    d.with_side(Window::opened(waits, side.time_left(30)))
+    d.with_side(Window::opened(waits, side.time_left(MISS_TIME)))
 }
 
 fn read_1(d: Desk) -> Desk
@@ -77,45 +80,45 @@ fn read_row(d: Desk, kind: MainKind, waits: Waits) -> Desk
     open_main(count_main(d).take_over(kind, 0, 0), waits)
 }
 
-fn offer_option(d: Desk, function_0: bool) -> Desk
-    ensures { λ r. ⌜ r ≡ optionOffered function_0 d ⌝ }
+fn offer_option(d: Desk, protects: bool) -> Desk
+    ensures { λ r. ⌜ r ≡ optionOffered protects d ⌝ }
 {
-    if function_0 {
+    if protects {
         d.with_option(CrossingOption::opened())
     } else {
         d
     }
 }
 
-fn read_3(d: Desk, function_0: bool) -> Desk
-    ensures { λ r. ⌜ r ≡ reading3 function_0 d ⌝ }
+fn read_3(d: Desk, protects: bool) -> Desk
+    ensures { λ r. ⌜ r ≡ reading3 protects d ⌝ }
 {
     let d = count_main(d)
         .take_over(MainKind::Clear, 0, 0)
         .with_window(Window::closed());
-    offer_option(d, function_0)
+    offer_option(d, protects)
 }
 
-fn read_4(d: Desk, function_0: bool) -> Desk
-    ensures { λ r. ⌜ r ≡ reading4 function_0 d ⌝ }
+fn read_4(d: Desk, protects: bool) -> Desk
+    ensures { λ r. ⌜ r ≡ reading4 protects d ⌝ }
 {
-    let crossing = d.crossing;
-    if function_0 {
+    let crossing = d.beside.crossing;
+    if protects {
         d.with_crossing(crossing.set_protected(0, 0, false))
     } else {
         d
     }
 }
 
-fn read_7(d: Desk, function_1: bool) -> Desk
-    ensures { λ r. ⌜ r ≡ reading7 function_1 d ⌝ }
+fn read_7(d: Desk, zones: bool) -> Desk
+    ensures { λ r. ⌜ r ≡ reading7 zones d ⌝ }
 {
     let d = count_main(d);
     let main = d.main;
-    let zone = main.near() & function_1;
+    let zone = main.near() & zones;
     if zone {
         d.take_over(MainKind::Zone, 0, 0)
-            .with_window(Window::opened(Waits::Zone, 40))
+            .with_window(Window::opened(Waits::Zone, ZONE_MISS))
     } else {
         open_main(d.take_over(MainKind::BeforeStop, 0, 0), Waits::Seven)
     }
@@ -152,42 +155,42 @@ fn read_limit(d: Desk) -> Desk
     open_side(count_side(d).set_limit(0), Waits::Limit)
 }
 
-fn read(d: Desk, code: u8, function_0: bool, function_1: bool) -> Desk
-    ensures { λ r. ⌜ r ≡ readingOf code function_0 function_1 d ⌝ }
+fn read(d: Desk, code: u8, protects: bool, zones: bool) -> Desk
+    ensures { λ r. ⌜ r ≡ readingOf code protects zones d ⌝ }
 {
     match code {
         1 => read_1(d),
         2 => read_row(d, MainKind::ConditionalClear, Waits::Two),
-        3 => read_3(d, function_0),
-        4 => read_4(d, function_0),
+        3 => read_3(d, protects),
+        4 => read_4(d, protects),
         5 => read_row(d, MainKind::Preannouncement, Waits::Five),
         6 => read_row(d, MainKind::Caution, Waits::Six),
-        7 => read_7(d, function_1),
+        7 => read_7(d, zones),
         8 => read_8(d),
         9 => read_9(d),
         _ => read_limit(d),
     }
 }
 
-fn read_if(d: Desk, acts: bool, code: u8, function_0: bool, function_1: bool) -> Desk
-    ensures { λ r. ⌜ r ≡ readIf acts code function_0 function_1 d ⌝ }
+fn read_if(d: Desk, acts: bool, code: u8, protects: bool, zones: bool) -> Desk
+    ensures { λ r. ⌜ r ≡ readIf acts code protects zones d ⌝ }
 {
     if acts {
-        read(d, code, function_0, function_1)
+        read(d, code, protects, zones)
     } else {
         d
     }
 }
 
-// The beacon's step; the functions are bits 0, 1 and 3 of the card.
-pub fn take_beacon(d: Desk, code: u8, function_0: bool, function_1: bool, function_3: bool) -> Turn
-    ensures { λ r. ⌜ r ≡ beaconTaken code function_0 function_1 function_3 d ⌝ }
+// The beacon's step, with three of the card's functions: protected crossing, stop zone, BTS reads beacons.
+pub fn take_beacon(d: Desk, code: u8, protects: bool, zones: bool, reads_in_bts: bool) -> Turn
+    ensures { λ r. ⌜ r ≡ beaconTaken code protects zones reads_in_bts d ⌝ }
 {
     let armed = d.armed;
-    let is_read = reads(d, code, function_3);
+    let is_read = reads(d, code, reads_in_bts);
     let danger = is_read & (code == 8) & !armed.armed;
     Turn {
-        desk: read_if(d.with_code(code), is_read, code, function_0, function_1),
+        desk: read_if(d.with_code(code), is_read, code, protects, zones),
         cause: leaf::choose8(danger, 4, 0),
     }
 }

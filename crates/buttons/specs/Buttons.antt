@@ -5,6 +5,7 @@ use mathlib.Core.Bool.{Bool, true, false, _&&_, not}
 use lib.Dec.{eqb}
 use Rattle.leaf.specs.Choosing.{pick}
 use Rattle.leaf.specs.Numbers.{bitOf}
+use Rattle.leaf.specs.Buttons.{announcementButton, preannouncementButton, cautionButton, conditionalClearButton, beforeStopButton, crossingButton, limitButton, overrideButton, increaseButton, hideButton}
 use Rattle.card.specs.declared.Row.{Row}
 use Rattle.signals.specs.declared.window.Window.{Window}
 use Rattle.signals.specs.declared.control.MainKind.the-variants.{Announcement, Preannouncement, Caution}
@@ -23,10 +24,10 @@ use Rattle.curve.specs.Curve.{rowSpeed}
 -- of this weight sets, with the reading's age and distance
 unfoldable pub chosen : ℕ → ℕ → ℕ → Desk → Desk
 chosen weight age distance d =
-    pick (eqb weight 1) (takenOver Announcement age distance d)
-    (pick (eqb weight 2) (takenOver Preannouncement age distance d)
-    (pick (eqb weight 4) (takenOver Caution age distance d)
-    (pick (eqb weight 32) (crossingSet age distance d) (pick (eqb weight 64) (limitNow age d) d))))
+    pick (eqb weight announcementButton) (takenOver Announcement age distance d)
+    (pick (eqb weight preannouncementButton) (takenOver Preannouncement age distance d)
+    (pick (eqb weight cautionButton) (takenOver Caution age distance d)
+    (pick (eqb weight crossingButton) (crossingSet age distance d) (pick (eqb weight limitButton) (limitNow age d) d))))
 
 -- beacons 1 and 9 set what the button chooses; the others set theirs at the reading, and an answer only closes their window
 unfoldable pub answeredBy : ℕ → Window → Desk → Desk
@@ -55,7 +56,7 @@ freeFor on weight d = on && not (answersOf (d .window) weight) && not (answersOf
 
 -- "beacon 3 answered by 5 .. sets protected", with the age and distance of the 3, its icon at once; the option is used up
 unfoldable pub optionUsed : Bool → Desk → Desk
-optionUsed true d = withOption noOption (withCrossing (protectedSet (d .option .age) (d .option .distance) true (d .crossing)) d)
+optionUsed true d = withOption noOption (withCrossing (protectedSet (d .option .age) (d .option .distance) true (d .beside .crossing)) d)
 optionUsed false d = d
 
 -- "Button 6 removes it"
@@ -80,18 +81,18 @@ stopIncreased false d = d
 
 -- "increase (if stop has no use for it) adds a 20 km/h step"
 unfoldable pub limitStepped : Bool → Desk → Desk
-limitStepped true d = withLimit (stepped (d .limit)) d
+limitStepped true d = withLimit (stepped (d .beside .limit)) d
 limitStepped false d = d
 
 -- ---- each button in its turn
 
 -- 5 crossing: the windows, then beacon 3's option
 unfoldable pub crossingPressed : Bool → Desk → Desk
-crossingPressed on d = optionUsed (freeFor on 32 d && d .option .on) (pressed on 32 d)
+crossingPressed on d = optionUsed (freeFor on crossingButton d && d .option .on) (pressed on crossingButton d)
 
 -- 6 limit: the windows, then the limit, where it may go
 unfoldable pub limitPressed : Bool → ℕ → Row → ℕ → Desk → Desk
-limitPressed on m row top d = limitRemoved (freeFor on 64 d && removable m (row .last) top (d .limit)) (pressed on 64 d)
+limitPressed on m row top d = limitRemoved (freeFor on limitButton d && removable m (row .last) top (d .beside .limit)) (pressed on limitButton d)
 
 -- 7 override: "A press while lit doesn't arm." "Override is dead", in BTS
 unfoldable pub overridePressed : Bool → Desk → Desk
@@ -102,26 +103,32 @@ overridePressed on d =
 -- 8 increase: stop, where it has use for it, else the limit
 unfoldable pub increasePressed : Bool → Row → ℕ → Desk → Desk
 increasePressed on row top d =
-    limitStepped (on && not (mayIncrease (d .main)) && mayStep (rowSpeed row (d .limit .age)) (row .last) top (d .limit))
+    limitStepped (on && not (mayIncrease (d .main)) && mayStep (rowSpeed row (d .beside .limit .age)) (row .last) top (d .beside .limit))
     (stopIncreased (on && mayIncrease (d .main)) d)
 
 -- 9 hide
 unfoldable pub hidePressed : Bool → Desk → Desk
-hidePressed true d = withLimit (hidden (d .limit)) d
+hidePressed true d = withLimit (hidden (d .beside .limit)) d
 hidePressed false d = d
+
+-- the button's press, where it is among those of the mask b
+abbrev pub pressedAmong : ℕ → ℕ → Desk → Desk
+pressedAmong b button d = pressed (bitOf b button) button d
 
 -- 0 to 4: only windows have use for them
 unfoldable pub windowPresses : ℕ → Desk → Desk
 windowPresses b d =
-    pressed (bitOf b 16) 16 (pressed (bitOf b 8) 8 (pressed (bitOf b 4) 4 (pressed (bitOf b 2) 2 (pressed (bitOf b 1) 1 d))))
+    pressedAmong b beforeStopButton
+    (pressedAmong b conditionalClearButton
+    (pressedAmong b cautionButton (pressedAmong b preannouncementButton (pressedAmong b announcementButton d))))
 
 -- "lowest bit first"; 10, rearm, belongs to the brake
 unfoldable pub allPresses : ℕ → ℕ → Row → ℕ → Desk → Desk
 allPresses b m row top d =
-    hidePressed (bitOf b 512)
-    (increasePressed (bitOf b 256) row top
-    (overridePressed (bitOf b 128)
-    (limitPressed (bitOf b 64) m row top (crossingPressed (bitOf b 32) (windowPresses b d)))))
+    hidePressed (bitOf b hideButton)
+    (increasePressed (bitOf b increaseButton) row top
+    (overridePressed (bitOf b overrideButton)
+    (limitPressed (bitOf b limitButton) m row top (crossingPressed (bitOf b crossingButton) (windowPresses b d)))))
 
 -- the buttons' step: a sample without a press leaves the desk as it is
 unfoldable pub pressesOf : ℕ → ℕ → Row → ℕ → Desk → Desk

@@ -2,24 +2,26 @@
 use card::Row;
 use curve::row_speed;
 use desk::state::Desk;
+use leaf::button;
+use leaf::has_bit;
 use sides::crossing::CrossingOption;
 use sides::limit::Limit;
 use signals::control::MainKind;
 use signals::stop::Override;
 use signals::window::Window;
 ghost use mathlib.Core.Path.{_≡_};
-ghost use Rattle.buttons.specs.Buttons.{chosen, answeredBy, mainAnswered, sideAnswered, pressed, freeFor, optionUsed, limitRemoved, reminderAnswered, overrideArmed, stopIncreased, limitStepped, crossingPressed, limitPressed, overridePressed, increasePressed, hidePressed, windowPresses, allPresses, pressesOf};
+ghost use Rattle.buttons.specs.Buttons.{chosen, answeredBy, mainAnswered, sideAnswered, pressed, freeFor, optionUsed, limitRemoved, reminderAnswered, overrideArmed, stopIncreased, limitStepped, crossingPressed, limitPressed, overridePressed, increasePressed, hidePressed, pressedAmong, windowPresses, allPresses, pressesOf};
 
 // What the button of this weight sets in answer to beacon 1 or 9, with the age and distance of that reading.
 fn choose(d: Desk, weight: u16, age: u16, distance: u32) -> Desk
     ensures { λ r. ⌜ r ≡ chosen weight age distance d ⌝ }
 {
     match weight {
-        1 => d.take_over(MainKind::Announcement, age, distance),
-        2 => d.take_over(MainKind::Preannouncement, age, distance),
-        4 => d.take_over(MainKind::Caution, age, distance),
-        32 => d.set_unprotected(age, distance),
-        64 => d.set_limit(age),
+        button::ANNOUNCEMENT => d.take_over(MainKind::Announcement, age, distance),
+        button::PREANNOUNCEMENT => d.take_over(MainKind::Preannouncement, age, distance),
+        button::CAUTION => d.take_over(MainKind::Caution, age, distance),
+        button::CROSSING => d.set_unprotected(age, distance),
+        button::LIMIT => d.set_limit(age),
         _ => d,
     }
 }
@@ -82,7 +84,7 @@ fn use_option(d: Desk, used: bool) -> Desk
     ensures { λ r. ⌜ r ≡ optionUsed used d ⌝ }
 {
     let option = d.option;
-    let crossing = d.crossing;
+    let crossing = d.beside.crossing;
     if used {
         d.with_crossing(crossing.set_protected(option.age, option.distance, true))
             .with_option(CrossingOption::none())
@@ -136,7 +138,7 @@ fn increase_stop(d: Desk, used: bool) -> Desk
 fn step_limit(d: Desk, used: bool) -> Desk
     ensures { λ r. ⌜ r ≡ limitStepped used d ⌝ }
 {
-    let limit = d.limit;
+    let limit = d.beside.limit;
     if used { d.with_limit(limit.step()) } else { d }
 }
 
@@ -145,18 +147,18 @@ fn press_crossing(d: Desk, on: bool) -> Desk
     ensures { λ r. ⌜ r ≡ crossingPressed on d ⌝ }
 {
     let option = d.option;
-    let free = is_free(d, on, 32);
-    use_option(press(d, on, 32), free & option.on)
+    let free = is_free(d, on, button::CROSSING);
+    use_option(press(d, on, button::CROSSING), free & option.on)
 }
 
 // Button 6: the windows, then the limit, where it may go.
 fn press_limit(d: Desk, on: bool, m: u32, row: Row, top: u32) -> Desk
     ensures { λ r. ⌜ r ≡ limitPressed on m row top d ⌝ }
 {
-    let limit = d.limit;
-    let free = is_free(d, on, 64);
+    let limit = d.beside.limit;
+    let free = is_free(d, on, button::LIMIT);
     let may_go = limit.is_removable(m, row.last, top);
-    remove_limit(press(d, on, 64), free & may_go)
+    remove_limit(press(d, on, button::LIMIT), free & may_go)
 }
 
 // Button 7: a lit reminder, or else the override. Both are dead in BTS.
@@ -175,7 +177,7 @@ fn press_increase(d: Desk, on: bool, row: Row, top: u32) -> Desk
     ensures { λ r. ⌜ r ≡ increasePressed on row top d ⌝ }
 {
     let main = d.main;
-    let limit = d.limit;
+    let limit = d.beside.limit;
     let stop = main.may_increase();
     let value = row_speed(row, limit.age);
     let steps = limit.may_step(value, row.last, top);
@@ -186,30 +188,37 @@ fn press_increase(d: Desk, on: bool, row: Row, top: u32) -> Desk
 fn press_hide(d: Desk, on: bool) -> Desk
     ensures { λ r. ⌜ r ≡ hidePressed on d ⌝ }
 {
-    let limit = d.limit;
+    let limit = d.beside.limit;
     if on { d.with_limit(limit.hide()) } else { d }
+}
+
+// A press of the button of this weight, where it is among b, as far as the windows have use for it.
+fn press_among(d: Desk, b: u16, weight: u16) -> Desk
+    ensures { λ r. ⌜ r ≡ pressedAmong b weight d ⌝ }
+{
+    press(d, has_bit(b, weight), weight)
 }
 
 // Buttons 0 to 4: only windows have use for them.
 fn press_answers(d: Desk, b: u16) -> Desk
     ensures { λ r. ⌜ r ≡ windowPresses b d ⌝ }
 {
-    let d = press(d, b / 1 % 2 == 1, 1);
-    let d = press(d, b / 2 % 2 == 1, 2);
-    let d = press(d, b / 4 % 2 == 1, 4);
-    let d = press(d, b / 8 % 2 == 1, 8);
-    press(d, b / 16 % 2 == 1, 16)
+    let d = press_among(d, b, button::ANNOUNCEMENT);
+    let d = press_among(d, b, button::PREANNOUNCEMENT);
+    let d = press_among(d, b, button::CAUTION);
+    let d = press_among(d, b, button::CONDITIONAL_CLEAR);
+    press_among(d, b, button::BEFORE_STOP)
 }
 
 fn press_all(d: Desk, b: u16, m: u32, row: Row, top: u32) -> Desk
     ensures { λ r. ⌜ r ≡ allPresses b m row top d ⌝ }
 {
     let d = press_answers(d, b);
-    let d = press_crossing(d, b / 32 % 2 == 1);
-    let d = press_limit(d, b / 64 % 2 == 1, m, row, top);
-    let d = press_override(d, b / 128 % 2 == 1);
-    let d = press_increase(d, b / 256 % 2 == 1, row, top);
-    press_hide(d, b / 512 % 2 == 1)
+    let d = press_crossing(d, has_bit(b, button::CROSSING));
+    let d = press_limit(d, has_bit(b, button::LIMIT), m, row, top);
+    let d = press_override(d, has_bit(b, button::OVERRIDE));
+    let d = press_increase(d, has_bit(b, button::INCREASE), row, top);
+    press_hide(d, has_bit(b, button::HIDE))
 }
 
 // The buttons b of a sample at m mm/s; `row` is row 6, `top` is T. Rearm belongs to the brake.

@@ -93,7 +93,7 @@ module _ (area : List ℕ) (h : ℕ) where
           tick-high = m .tick-high;
           bts-low = m .bts-low;
           bts-high = m .bts-high;
-          clear = m .clear;
+          conditional-clear = m .conditional-clear;
           announcement = m .announcement;
           preannouncement = m .preannouncement;
           caution = m .caution;
@@ -121,7 +121,7 @@ module _ (area : List ℕ) (h : ℕ) where
         tick-high = m .tick-high;
         bts-low = m .bts-low;
         bts-high = m .bts-high;
-        clear = m .clear;
+        conditional-clear = m .conditional-clear;
         announcement = m .announcement;
         preannouncement = m .preannouncement;
         caution = m .caution;

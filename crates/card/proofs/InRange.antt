@@ -79,8 +79,8 @@ checks-met first lowest highest v s f =
     let vmax = within-met (f .0) in
     let tick = within-met (f .1 .0) in
     let bts = within-met (f .1 .1 .0) in
-    let clear = row-out (s .clear) (f .1 .1 .1) in
-    let announcement = row-out (s .announcement) (clear .1) in
+    let conditional = row-out (s .«conditional_clear») (f .1 .1 .1) in
+    let announcement = row-out (s .announcement) (conditional .1) in
     let preannouncement = row-out (s .preannouncement) (announcement .1) in
     let caution = row-out (s .caution) (preannouncement .1) in
     let stop = row-out (s .«before_stop») (caution .1) in
@@ -96,7 +96,7 @@ checks-met first lowest highest v s f =
       tick-high = tick .1;
       bts-low = bts .0;
       bts-high = bts .1;
-      clear = clear .0;
+      conditional-clear = conditional .0;
       announcement = announcement .0;
       preannouncement = preannouncement .0;
       caution = caution .0;
@@ -129,7 +129,7 @@ met-checks first lowest highest v s m =
         met-within (m .tick-low) (m .tick-high),
         (
           met-within (m .bts-low) (m .bts-high),
-          row-in (s .clear) (m .clear) (row-in (s .announcement) (m .announcement) (row-in (s .preannouncement) (m .preannouncement)
+          row-in (s .«conditional_clear») (m .conditional-clear) (row-in (s .announcement) (m .announcement) (row-in (s .preannouncement) (m .preannouncement)
               (row-in (s .caution) (m .caution) (row-in (s .«before_stop») (m .before-stop) (row-in (s .crossing) (m .crossing)
               (row-in (s .limit) (m .limit) (row-in (s .start) (m .start) (
                 functions-in v (s .functions) (m .functions-none) (m .functions-high),

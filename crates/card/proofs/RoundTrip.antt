@@ -34,7 +34,7 @@ kept-back false x off = sym (off refl)
 
 -- a record's value is its fields: those that a byte or two stand for are equal by a law, and the rest computes
 rebuilt : (s : Settings) (t f x y : ℕ) → t ≡ s .tick → f ≡ s .functions → x ≡ s .x → y ≡ s .y
-    → record { vmax = s .vmax; tick = t; bts = s .bts; clear = s .clear; announcement = s .announcement; preannouncement = s .preannouncement; caution = s .caution; «before_stop» = s .«before_stop»; crossing = s .crossing; limit = s .limit; start = s .start; functions = f; x = x; y = y } ≡ s
+    → record { vmax = s .vmax; tick = t; bts = s .bts; «conditional_clear» = s .«conditional_clear»; announcement = s .announcement; preannouncement = s .preannouncement; caution = s .caution; «before_stop» = s .«before_stop»; crossing = s .crossing; limit = s .limit; start = s .start; functions = f; x = x; y = y } ≡ s
 rebuilt s t f x y pt pf px py = rw (pt, pf, px, py)
 
 module _ (s : Settings) (rest : List ℕ) where

@@ -7,6 +7,7 @@ use Rattle.leaf.specs.Choosing.{pick}
 use Rattle.leaf.specs.Numbers.{within, bitOf}
 use Rattle.leaf.specs.Bytes.{byte}
 use Rattle.card.specs.declared.Row.{Row}
+use Rattle.card.specs.declared.Functions.{Functions}
 
 -- ---- the record
 
@@ -41,6 +42,11 @@ reminds functions = bitOf functions 4
 
 abbrev pub readsInBts : ℕ → Bool
 readsInBts functions = bitOf functions 8
+
+-- the functions that a functions byte turns on
+abbrev pub functionsOf : ℕ → Functions
+functionsOf functions =
+    record { protects = protects functions; zones = zones functions; reminds = reminds functions; «reads_in_bts» = readsInBts functions }
 
 -- ---- speaking bytes
 

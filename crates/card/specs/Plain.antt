@@ -38,7 +38,7 @@ pub record RangesMet (lowest highest version : ℕ) (s : Settings) : Type 0 wher
   pub tick-high : s .tick ≤ 1000
   pub bts-low : 1 ≤ s .bts
   pub bts-high : s .bts ≤ 200
-  pub clear : RowIn (s .clear)
+  pub conditional-clear : RowIn (s .«conditional_clear»)
   pub announcement : RowIn (s .announcement)
   pub preannouncement : RowIn (s .preannouncement)
   pub caution : RowIn (s .caution)
@@ -69,7 +69,7 @@ pub record CardMet (area : List ℕ) (highest : ℕ) : Type 0 where
   pub tick-high : word area 4 ≤ 1000
   pub bts-low : 1 ≤ byte area 6
   pub bts-high : byte area 6 ≤ 200
-  pub clear : RowAt area 7
+  pub conditional-clear : RowAt area 7
   pub announcement : RowAt area 11
   pub preannouncement : RowAt area 15
   pub caution : RowAt area 19

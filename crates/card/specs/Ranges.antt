@@ -31,7 +31,7 @@ headChecks first lowest highest s =
 -- crossing, limit, start."
 abbrev pub rowsChecks : ℕ → Settings → List Check
 rowsChecks first s =
-    rowChecks (placeOf first 4) (s .clear) ++ rowChecks (placeOf first 8) (s .announcement)
+    rowChecks (placeOf first 4) (s .«conditional_clear») ++ rowChecks (placeOf first 8) (s .announcement)
     ++ rowChecks (placeOf first 12) (s .preannouncement) ++ rowChecks (placeOf first 16) (s .caution)
     ++ rowChecks (placeOf first 20) (s .«before_stop») ++ rowChecks (placeOf first 24) (s .crossing)
     ++ rowChecks (placeOf first 28) (s .limit) ++ rowChecks (placeOf first 32) (s .start)

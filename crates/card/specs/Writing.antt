@@ -25,7 +25,7 @@ rowBytes row = row .initial ∷ row .last ∷ row .delay ∷ row .drop ∷ []
 abbrev pub settingsBytes : Settings → List ℕ
 settingsBytes s =
     (s .vmax ∷ []) ++ pair (s .tick) ++ (s .bts ∷ [])
-    ++ rowBytes (s .clear) ++ rowBytes (s .announcement) ++ rowBytes (s .preannouncement) ++ rowBytes (s .caution)
+    ++ rowBytes (s .«conditional_clear») ++ rowBytes (s .announcement) ++ rowBytes (s .preannouncement) ++ rowBytes (s .caution)
     ++ rowBytes (s .«before_stop») ++ rowBytes (s .crossing) ++ rowBytes (s .limit) ++ rowBytes (s .start)
     ++ (s .functions ∷ []) ++ pair (s .x) ++ pair (s .y)
 

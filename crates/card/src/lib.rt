@@ -12,6 +12,7 @@ use layout::settings_from;
 use leaf::Refusal;
 use leaf::byte_at;
 use leaf::copy_front;
+use leaf::has_bit;
 use leaf::in_range;
 use leaf::or_fault;
 use leaf::word_at;
@@ -22,7 +23,7 @@ ghost use lib.ListN.{length};
 ghost use Rattle.leaf.specs.Bytes.{over};
 ghost use Rattle.leaf.specs.Checks.{firstBad};
 ghost use Rattle.leaf.specs.Answers.{isGiven};
-ghost use Rattle.card.specs.Card.{known, lengthOf};
+ghost use Rattle.card.specs.Card.{known, lengthOf, functionsOf};
 ghost use Rattle.card.specs.Ranges.{faultOf, checkedOf, checkSettings};
 ghost use Rattle.card.specs.Reading.{paperOf, answerBy, readChecks, readCard};
 ghost use Rattle.card.specs.Writing.{writtenOf, written, writeChecks, writeCard, bytesOf, leaves};
@@ -48,7 +49,7 @@ pub struct Settings {
     pub vmax: u8,
     pub tick: u16,
     pub bts: u8,
-    pub clear: Row,
+    pub conditional_clear: Row,
     pub announcement: Row,
     pub preannouncement: Row,
     pub caution: Row,
@@ -69,6 +70,14 @@ impl Settings {
     pub const LENGTH_2: u16 = 44;
 }
 
+// The functions of a card, by name: protected crossing, stop zone, reminder, BTS reads beacons 4, 9, 10 and 11.
+pub struct Functions {
+    pub protects: bool,
+    pub zones: bool,
+    pub reminds: bool,
+    pub reads_in_bts: bool,
+}
+
 // What the check of settings answers: in range, or the byte position of the first fault.
 pub enum Checked {
     InRange,
@@ -83,6 +92,18 @@ pub enum Reading {
 pub enum Written {
     Done,
     NotWritten(Refusal),
+}
+
+// The functions that a functions byte turns on.
+pub fn functions_of(byte: u8) -> Functions
+    ensures { λ r. ⌜ r ≡ functionsOf byte ⌝ }
+{
+    Functions {
+        protects: has_bit(byte as u16, 1),
+        zones: has_bit(byte as u16, 2),
+        reminds: has_bit(byte as u16, 4),
+        reads_in_bts: has_bit(byte as u16, 8),
+    }
 }
 
 // ---- the settings' check

@@ -2,8 +2,8 @@
 // place and the range of vmax belong to the card's kind and are handed in.
 use crate::Row;
 use crate::Settings;
+use crate::functions_of;
 use leaf::choose8;
-use leaf::has_bit;
 use leaf::in_range;
 use leaf::low;
 use leaf::or_fault;
@@ -38,11 +38,11 @@ fn ranged_if(on: bool, lo: u16, hi: u16, x: u16) -> bool
     x == 0
 }
 
-// Does this mask of functions have the reminder.
+// Do these functions have the reminder.
 pub fn has_reminder(functions: u8) -> bool
     ensures { λ r. ⌜ r ≡ reminds functions ⌝ }
 {
-    has_bit(functions as u16, 4)
+    functions_of(functions).reminds
 }
 
 // ---- the range of each setting
@@ -124,7 +124,7 @@ fn head_fault(first: u8, lowest: u8, highest: u8, s: Settings) -> u8
 fn rows_fault(found: u8, first: u8, s: Settings) -> u8
     ensures { λ f. ⌜ f ≡ firstBad found (rowsChecks first s) ⌝ }
 {
-    let f = row_fault(found, first, 4, s.clear);
+    let f = row_fault(found, first, 4, s.conditional_clear);
     let f = row_fault(f, first, 8, s.announcement);
     let f = row_fault(f, first, 12, s.preannouncement);
     let f = row_fault(f, first, 16, s.caution);
@@ -163,7 +163,7 @@ fn row_inside(sofar: bool, row: Row) -> bool
 fn rows_inside(sofar: bool, s: Settings) -> bool
     ensures { λ r. ⌜ r ≡ allHold sofar (rowsChecks 0 s) ⌝ }
 {
-    let inside = row_inside(sofar, s.clear);
+    let inside = row_inside(sofar, s.conditional_clear);
     let inside = row_inside(inside, s.announcement);
     let inside = row_inside(inside, s.preannouncement);
     let inside = row_inside(inside, s.caution);

@@ -1,7 +1,7 @@
 -- Sessions whose settings differ in later functions alone answer alike until one that differs speaks: one sample through its refusals, then a
 -- list of samples.
 use Prim.Native.Nat.{ℕ, suc, _*_}
-use mathlib.Core.Bool.{Bool, true, false, _&&_, false≢true}
+use mathlib.Core.Bool.{Bool, true, false, _&&_}
 use mathlib.Core.Path.{_≡_, refl, sym, ap, _∙_}
 use mathlib.Core.List.{List, [], _∷_}
 use lib.ListN.{take}
@@ -14,9 +14,6 @@ use Rattle.signals.specs.Stop.{firstMet, remindedOf, reminderOlder}
 use Rattle.desk.specs.declared.state.Desk.{Desk}
 use Rattle.desk.specs.State.{freshDesk}
 use Rattle.desk.specs.Clock.{sameMode, deskOlder}
-use Rattle.step.specs.Speed.{crossingTurned}
-use Rattle.step.specs.Brake.{braked}
-use Rattle.step.specs.Step.{movedOf, judgedOf, stepOf}
 use Rattle.session.specs.declared.Sample.{Sample}
 use Rattle.session.specs.declared.Session.{Session}
 use Rattle.session.specs.declared.Sampled.{Sampled}
@@ -24,10 +21,11 @@ use Rattle.session.specs.declared.Outcome.{Outcome}
 use Rattle.session.specs.declared.Outcome.the-variants.{Refused}
 use Rattle.session.specs.Types.{typeSpeed}
 use Rattle.session.specs.Session.{settingsInside, insideOf, refusedBy, carried, ranOf, sampleOf, inBts}
-use Rattle.laws.specs.Ranges.{settings-only}
-use Rattle.demands.specs.Runs.{after, accepted, outcomes}
-use Rattle.demands.specs.Speaks.{atBeacon, Later, crossingFunction, zoneFunction, reminderFunction, btsFunction, laterFunctions, reminderDiffers, meetsZone, meetsReminder, differingSpeaks, silentFor}
-use Rattle.demands.specs.Kept.{calm, stays-calm, Kept, begin, presses, beacon}
+use Rattle.laws.proofs.Ranges.{settings-only}
+use Rattle.step_laws.proofs.Carried.{carried-laws}
+use Rattle.session.specs.Runs.{accepted, outcomes}
+use Rattle.demands.specs.Speaks.{Later, crossingFunction, zoneFunction, reminderFunction, btsFunction, laterFunctions, reminderDiffers, meetsZone, meetsReminder, differingSpeaks, silentFor}
+use Rattle.demands.proofs.Kept.{calm, stays-calm, calm-after}
 use Rattle.demands.proofs.Later.{later, AllSilent, all-silent, Entry, momentary, AllQuiet, all-fresh, all-stay}
 use Rattle.demands.proofs.Apart.{reminder-same, RemindsAlike, step-alike}
 
@@ -36,11 +34,11 @@ use Rattle.demands.proofs.Apart.{reminder-same, RemindsAlike, step-alik
 abbrev run : Session → Sample → Sampled
 run s x = ranOf (carried s x) s
 
-pub accepted-runs : (s : Session) (x : Sample) → accepted s x ≡ true → after s x ≡ run s x
+pub accepted-runs : (s : Session) (x : Sample) → accepted s x ≡ true → sampleOf s x ≡ run s x
 unfolding sampleOf
 accepted-runs s x h = rw h
 
-pub refused-stays : (s : Session) (x : Sample) → accepted s x ≡ false → after s x ≡ record { session = s; outcome = Refused (Number (refusedBy s x)) }
+pub refused-stays : (s : Session) (x : Sample) → accepted s x ≡ false → sampleOf s x ≡ record { session = s; outcome = Refused (Number (refusedBy s x)) }
 unfolding sampleOf
 refused-stays s x h = rw h
 
@@ -49,9 +47,8 @@ refused-stays s x h = rw h
 -- a reminder whose settings are not looked at, off or due and not yet lit, stays so where its first lighting does not come
 calm-stays : (s : Session) (t : Settings) (x : Sample) → reminderDiffers (s .settings) t ≡ true → calm (s .desk .reminder .phase) ≡ true
     → meetsReminder s x ≡ false → calm (run s x .session .desk .reminder .phase) ≡ true
-unfolding meetsReminder ranOf stepOf judgedOf movedOf crossingTurned braked
-calm-stays s t x o quiet dark =
-    beacon (inBts (x .mode)) true _ _ _ _ _ (presses _ _ _ _ _ _ _ (begin _ _ _ _ _ _ (s .desk) (λ _. quiet) (λ _. dark))) .calmly refl
+unfolding meetsReminder ranOf
+calm-stays s t x o quiet dark = calm-after (s .settings) (typeSpeed (s .train) * 100) (carried s x) (s .desk) quiet dark
 
 abbrev reminderEntry : Entry
 reminderEntry = record { function = reminderFunction; quiet = λ d. calm (d .reminder .phase); fresh = refl; stays = calm-stays }
@@ -59,10 +56,6 @@ reminderEntry = record { function = reminderFunction; quiet = λ d. calm (d .rem
 -- those of `laterFunctions`, in its order
 abbrev entries : List Entry
 entries = momentary crossingFunction ∷ momentary zoneFunction ∷ reminderEntry ∷ momentary btsFunction ∷ []
-
--- the mode at the beacon is the sample's
-mode-kept : (s : Session) (x : Sample) → atBeacon s x .bts ≡ inBts (x .mode)
-mode-kept s x = presses (inBts (x .mode)) false _ _ _ _ _ (begin _ _ _ _ _ _ (s .desk) (λ o. absurd (false≢true o)) (λ o. absurd (false≢true o))) .mode
 
 -- ---- one sample
 
@@ -99,7 +92,7 @@ module _ (s t : Settings) (train : ℕ) (inside : settingsInside s ≡ true) (al
 
     ran-alike : run (beside d) x ≡ record { session = beside (run (at d) x .session .desk); outcome = run (at d) x .outcome }
     unfolding ranOf meetsZone
-    ran-alike = rw (step-alike s t (typeSpeed train * 100) (carried (at d) x) d reminds-alike (mode-kept (at d) x) (silent .0) (silent .1 .0) (silent .1 .1 .1 .0))
+    ran-alike = rw (step-alike s t (typeSpeed train * 100) (carried (at d) x) d reminds-alike (carried-laws s (typeSpeed train * 100) (carried (at d) x) d .at-mode) (silent .0) (silent .1 .0) (silent .1 .1 .1 .0))
 
   -- settings and train type are as they were
   run-at : (d : Desk) (x : Sample) → run (at d) x .session ≡ at (run (at d) x .session .desk)
@@ -120,12 +113,12 @@ module _ (s t : Settings) (train : ℕ) (inside : settingsInside s ≡ true) (al
   alike d (x ∷ xs) quiet = cases (accepted (at d) x) refl (differingSpeaks (at d) (later s t) x) refl (λ e c. alike e xs c)
     where
       rest : ℕ
-      rest = silentFor (after (at d) x .session) (later s t) xs
+      rest = silentFor (sampleOf (at d) x .session) (later s t) xs
 
       cases : (a : Bool) → accepted (at d) x ≡ a → (k : Bool) → differingSpeaks (at d) (later s t) x ≡ k
           → ((e : Desk) → AllQuiet entries s t e → take (silentFor (at e) (later s t) xs) (outcomes (at e) xs) ≡ take (silentFor (at e) (later s t) xs) (outcomes (beside e) xs))
-          → take (pick (a && k) 0 (suc rest)) (after (at d) x .outcome ∷ outcomes (after (at d) x .session) xs)
-          ≡ take (pick (a && k) 0 (suc rest)) (after (beside d) x .outcome ∷ outcomes (after (beside d) x .session) xs)
+          → take (pick (a && k) 0 (suc rest)) (sampleOf (at d) x .outcome ∷ outcomes (sampleOf (at d) x .session) xs)
+          ≡ take (pick (a && k) 0 (suc rest)) (sampleOf (beside d) x .outcome ∷ outcomes (sampleOf (beside d) x .session) xs)
       cases true e true o ih = refl
       cases true e false o ih =
           let silent = spoken d x o in

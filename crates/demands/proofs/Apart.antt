@@ -3,7 +3,8 @@
 use Prim.Native.Nat.{ℕ, _*_}
 use native.Mathlib.Omega.{arith}
 use mathlib.Core.Bool.{Bool, true, false, _&&_, _||_, not}
-use mathlib.Core.Path.{_≡_, refl, sym, _∙_}
+use mathlib.Core.Path.{_≡_, refl, sym, ap, _∙_}
+use mathlib.Core.List.{_∷_}
 use lib.Dec.{eqb}
 use borrow.Author.Tests.{eqb-true}
 use Rattle.leaf.specs.Choosing.{pick, and-split}
@@ -22,12 +23,13 @@ use Rattle.desk.specs.Clock.{sameMode, deskOlder, reminded, mainCounts, advance
 use Rattle.buttons.specs.Buttons.{pressesOf}
 use Rattle.beacons.specs.Beacons.{isBeacon, isSide, readsOf, zoneMet, reading3, reading7, readingOf, readIf, beaconTaken}
 use Rattle.step.specs.declared.Input.{Input}
-use Rattle.step.specs.Speed.{mainSpeed, supervisedOf, crossingTurned}
+use Rattle.step.specs.declared.speed.Standing.{Standing}
+use Rattle.step.specs.Speed.{mainSpeed, none, alwaysAt, btsLimit, mainLimit, limitsBeside, leastOf, supervisedOf, crossingTurned}
 use Rattle.step.specs.Brake.{braked}
 use Rattle.step.specs.Step.{movedOf, answerOf, judgedOf, stepOf}
+use Rattle.step_laws.specs.Walk.{atBeacon, readsAt}
 use Rattle.demands.specs.Speaks.{same}
 use Rattle.demands.proofs.Later.{later, or-false}
-use Rattle.demands.specs.Kept.{calm, stays-calm, Kept, begin, presses, beacon}
 
 -- ---- the reminders: bit 2, X and Y
 
@@ -144,9 +146,15 @@ main-alike s t BeforeStop c top = refl
 main-alike s t Stop c top = refl
 main-alike s t Zone c top = refl
 
+limit-alike : (s t : Settings) (top : ℕ) (c : Main) → mainLimit (later s t) top c ≡ mainLimit s top c
+unfolding mainLimit
+limit-alike s t top c = rw (main-alike s t (c .kind) c top)
+
 speed-alike : (s t : Settings) (top : ℕ) (d : Desk) → supervisedOf (later s t) top d ≡ supervisedOf s top d
 unfolding supervisedOf
-speed-alike s t top d = rw (main-alike s t (d .main .kind) (d .main) top)
+speed-alike s t top d =
+    ap (λ (l : Standing). leastOf none (alwaysAt (s .vmax * 100) ∷ alwaysAt top ∷ btsLimit (d .bts) (s .bts) ∷ l ∷ limitsBeside s top (d .beside)) .speed)
+    (limit-alike s t top (d .main))
 
 judged-alike : (s t : Settings) (top : ℕ) (x : Input) (cause : ℕ) (d : Desk) → judgedOf (later s t) top x cause d ≡ judgedOf s top x cause d
 unfolding judgedOf answerOf
@@ -154,23 +162,19 @@ judged-alike s t top x cause d = rw (speed-alike s t top (crossingTurned (x .m) 
 
 -- ---- the sample of the desk
 
--- the desk where the beacon is looked at
-abbrev read : Settings → ℕ → Input → Desk → Desk
-read s top x d = pressesOf (x .buttons) (x .m) (s .limit) top (begun (x .bts) (x .m) (reminds (s .functions)) (s .x) (s .y) d .desk)
-
 module _
     (s t : Settings) (top : ℕ) (x : Input) (d : Desk)
     (h2 : RemindsAlike (x .bts) (x .m) (reminds (s .functions)) (reminds (t .functions)) (s .x) (s .y) (t .x) (t .y) d)
-    (mode : read s top x d .bts ≡ x .bts)
+    (mode : atBeacon s top x d .bts ≡ x .bts)
     (h0 : Apart (protects (s .functions)) (protects (t .functions)) (eqb (x .beacon) 3 || eqb (x .beacon) 4))
-    (h1 : Apart (zones (s .functions)) (zones (t .functions)) (eqb (x .beacon) 7 && readsOf (x .beacon) (readsInBts (s .functions)) (read s top x d .bts) (read s top x d .code) && zoneMet (read s top x d)))
+    (h1 : Apart (zones (s .functions)) (zones (t .functions)) (eqb (x .beacon) 7 && readsAt s x (atBeacon s top x d) && zoneMet (atBeacon s top x d)))
     (h3 : Apart (readsInBts (s .functions)) (readsInBts (t .functions)) (x .bts && isSide (x .beacon))) where
   moved-alike : movedOf (later s t) top x d ≡ movedOf s top x d
   unfolding movedOf
   moved-alike =
       rw (
         ← (begun-alike (x .bts) (x .m) (reminds (s .functions)) (reminds (t .functions)) (s .x) (s .y) (t .x) (t .y) d h2),
-        ← (beacon-alike (x .beacon) (protects (s .functions)) (protects (t .functions)) (zones (s .functions)) (zones (t .functions)) (readsInBts (s .functions)) (readsInBts (t .functions)) (read s top x d) h0 h1 (rw mode h3)),
+        ← (beacon-alike (x .beacon) (protects (s .functions)) (protects (t .functions)) (zones (s .functions)) (zones (t .functions)) (readsInBts (s .functions)) (readsInBts (t .functions)) (atBeacon s top x d) h0 h1 (rw mode h3)),
       )
 
   pub step-alike : stepOf (later s t) top x d ≡ stepOf s top x d

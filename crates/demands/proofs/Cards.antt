@@ -21,15 +21,15 @@ use Rattle.session.specs.declared.Sample.{Sample}
 use Rattle.session.specs.declared.Session.{Session}
 use Rattle.session.specs.declared.Outcome.{Outcome}
 use Rattle.session.specs.Types.{typeAllowed}
-use Rattle.session.specs.Session.{freshSession, openedAfter, openSession, settingsInside}
-use Rattle.laws.specs.Ranges.{settings-when}
+use Rattle.session.specs.Session.{openingVersion, freshSession, openedAfter, openSession, settingsInside}
+use Rattle.laws.proofs.Ranges.{settings-when}
 use Rattle.demands.specs.Runs.{runFrom, firstOf}
 use Rattle.demands.specs.Speaks.{untilSpeaks}
 use Rattle.demands.proofs.Later.{later}
 use Rattle.demands.proofs.Alike.{alike-fresh}
 
--- "opening takes no version": settings in range beside any version are in range beside 2
-beside-2 : (v : ℕ) (s : Settings) → SettingsMet v s → SettingsMet 2 s
+-- "opening takes no version": settings in range beside any version are in range for it
+beside-2 : (v : ℕ) (s : Settings) → SettingsMet v s → SettingsMet openingVersion s
 beside-2 v s m =
     record {
       vmax-low = m .vmax-low;
@@ -38,7 +38,7 @@ beside-2 v s m =
       tick-high = m .tick-high;
       bts-low = m .bts-low;
       bts-high = m .bts-high;
-      clear = m .clear;
+      conditional-clear = m .conditional-clear;
       announcement = m .announcement;
       preannouncement = m .preannouncement;
       caution = m .caution;
@@ -87,7 +87,7 @@ common a b h =
 pub opens : (s : Settings) (train : ℕ) → settingsInside s ≡ true
     → openSession s train ≡ pick (typeAllowed train (s .vmax)) (given (freshSession s train)) (refused 7)
 unfolding openSession settingsInside
-opens s train inside = cases (checkSettings 2 s) inside
+opens s train inside = cases (checkSettings openingVersion s) inside
   where
     cases : (a : Answer Unit) → isGiven a ≡ true → openedAfter a s train ≡ pick (typeAllowed train (s .vmax)) (given (freshSession s train)) (refused 7)
     cases (given u) h = refl

@@ -27,11 +27,11 @@ use Rattle.session.specs.declared.Sample.{Sample}
 use Rattle.session.specs.declared.Session.{Session}
 use Rattle.session.specs.declared.Sampled.{Sampled}
 use Rattle.session.specs.Types.{typeAllowed}
-use Rattle.session.specs.Session.{freshSession, openedAfter, openSession, refusedBy, sampleOf}
-use Rattle.rides.specs.Recording.{goodRecording}
+use Rattle.session.specs.Session.{openingVersion, freshSession, openedAfter, openSession, refusedBy, sampleOf}
+use Rattle.rides.specs.Recording.{goodRecording, RecordingMet}
 use Rattle.rides.specs.Ride.{startRide}
-use Rattle.rides.proofs.Recordings.{RecordingMet, good-met, met-good}
-use Rattle.laws.specs.OutOfRange as law
+use Rattle.rides.proofs.Recordings.{good-met, met-good}
+use Rattle.laws.proofs.Refusals.{refusal-laws}
 use Rattle.demands.specs.Demand1.{Exactly, SheetReadAs, ClassifiedAs, SampledAs, Demand1}
 use Rattle.demands.specs.Demand1 as paper
 
@@ -72,38 +72,38 @@ due-tone area t a (paper.ClassifiedAs.reads m) = tone.classifies area t m
 -- ---- opening
 
 module _ (s : Settings) (train : ℕ) where
-  pub open-given : SettingsMet 2 s → typeAllowed train (s .vmax) ≡ true → openSession s train ≡ given (freshSession s train)
+  pub open-given : SettingsMet openingVersion s → typeAllowed train (s .vmax) ≡ true → openSession s train ≡ given (freshSession s train)
   unfolding openSession
-  open-given met allowed = rw (in-range-when 2 s met, allowed)
+  open-given met allowed = rw (in-range-when openingVersion s met, allowed)
 
-  pub open-number : (n : ℕ) → openSession s train ≡ refused n → (n ≡ 7) × SettingsMet 2 s × (typeAllowed train (s .vmax) ≡ false)
+  pub open-number : (n : ℕ) → openSession s train ≡ refused n → (n ≡ 7) × SettingsMet openingVersion s × (typeAllowed train (s .vmax) ≡ false)
   unfolding openSession checkSettings
-  open-number n h = cases (eqb (faultOf 2 s) 0) refl h
+  open-number n h = cases (eqb (faultOf openingVersion s) 0) refl h
     where
       types : (t : Bool) → typeAllowed train (s .vmax) ≡ t → pick t (given (freshSession s train)) (refused 7) ≡ refused n
           → (n ≡ 7) × (typeAllowed train (s .vmax) ≡ false)
       types true e h = absurd (let z : _≡_ {A = ℕ} 0 1 = cc in omega arith)
       types false e h = (cc, e)
 
-      cases : (t : Bool) → eqb (faultOf 2 s) 0 ≡ t → openedAfter (pick t inRange (refusedAt 5 (faultOf 2 s))) s train ≡ refused n
-          → (n ≡ 7) × SettingsMet 2 s × (typeAllowed train (s .vmax) ≡ false)
-      cases true e h = let q = types (typeAllowed train (s .vmax)) refl h in (q .0, fault-met 2 s (eqb-true _ _ e), q .1)
+      cases : (t : Bool) → eqb (faultOf openingVersion s) 0 ≡ t → openedAfter (pick t inRange (refusedAt 5 (faultOf openingVersion s))) s train ≡ refused n
+          → (n ≡ 7) × SettingsMet openingVersion s × (typeAllowed train (s .vmax) ≡ false)
+      cases true e h = let q = types (typeAllowed train (s .vmax)) refl h in (q .0, fault-met openingVersion s (eqb-true _ _ e), q .1)
       cases false e h = absurd (let z : _≡_ {A = ℕ} 0 1 = cc in omega arith)
 
-  pub open-place : (n place : ℕ) → openSession s train ≡ refusedAt n place → (n ≡ 5) × FirstFault place (checksOf 2 s)
+  pub open-place : (n place : ℕ) → openSession s train ≡ refusedAt n place → (n ≡ 5) × FirstFault place (checksOf openingVersion s)
   unfolding openSession checkSettings
-  open-place n place h = cases (eqb (faultOf 2 s) 0) refl h
+  open-place n place h = cases (eqb (faultOf openingVersion s) 0) refl h
     where
       types : (t : Bool) → pick t (given (freshSession s train)) (refused 7) ≡ refusedAt n place → ⊥
       types true h = let z : _≡_ {A = ℕ} 0 1 = cc in omega arith
       types false h = let z : _≡_ {A = ℕ} 0 1 = cc in omega arith
 
-      cases : (t : Bool) → eqb (faultOf 2 s) 0 ≡ t → openedAfter (pick t inRange (refusedAt 5 (faultOf 2 s))) s train ≡ refusedAt n place
-          → (n ≡ 5) × FirstFault place (checksOf 2 s)
+      cases : (t : Bool) → eqb (faultOf openingVersion s) 0 ≡ t → openedAfter (pick t inRange (refusedAt 5 (faultOf openingVersion s))) s train ≡ refusedAt n place
+          → (n ≡ 5) × FirstFault place (checksOf openingVersion s)
       cases true e h = absurd (types (typeAllowed train (s .vmax)) h)
       cases false e h =
-          let at : _≡_ {A = Answer Unit} (refusedAt 5 (faultOf 2 s)) (refusedAt n place) = cc in
-          check-place 2 s n place (rw e at)
+          let at : _≡_ {A = Answer Unit} (refusedAt 5 (faultOf openingVersion s)) (refusedAt n place) = cc in
+          check-place openingVersion s n place (rw e at)
 
 -- ---- a recording
 
@@ -122,11 +122,11 @@ recording-bad s recording none = cases (goodRecording recording) refl
 -- ---- a sample
 
 due-sample : (s : Session) (x : Sample) (a : Sampled) → SampledAs s x a → sampleOf s x ≡ a
-due-sample s x a (paper.SampledAs.refused-8 out) = law.refused-as s x 8 (law.refused-8 s x .1 out) (λ z. omega arith)
-due-sample s x a (paper.SampledAs.refused-9 i c) = law.refused-as s x 9 (law.refused-9 s x .1 (i, c)) (λ z. omega arith)
-due-sample s x a (paper.SampledAs.refused-10 i c f) = law.refused-as s x 10 (law.refused-10 s x .1 (i, (c, f))) (λ z. omega arith)
-due-sample s x a (paper.SampledAs.refused-11 i c f m) = law.refused-as s x 11 (law.refused-11 s x .1 (i, (c, (f, m)))) (λ z. omega arith)
-due-sample s x a (paper.SampledAs.answered i c f m) = law.accepted-as s x (law.accepted s x .1 (record { inside = i; codes = c; slow = f; kept = m }))
+due-sample s x a (paper.SampledAs.refused-8 out) = refusal-laws s x .refused-as 8 (refusal-laws s x .refused-8 .1 out) (λ z. omega arith)
+due-sample s x a (paper.SampledAs.refused-9 i c) = refusal-laws s x .refused-as 9 (refusal-laws s x .refused-9 .1 (i, c)) (λ z. omega arith)
+due-sample s x a (paper.SampledAs.refused-10 i c f) = refusal-laws s x .refused-as 10 (refusal-laws s x .refused-10 .1 (i, (c, f))) (λ z. omega arith)
+due-sample s x a (paper.SampledAs.refused-11 i c f m) = refusal-laws s x .refused-as 11 (refusal-laws s x .refused-11 .1 (i, (c, (f, m)))) (λ z. omega arith)
+due-sample s x a (paper.SampledAs.answered i c f m) = refusal-laws s x .accepted-as (refusal-laws s x .accepted .1 (record { inside = i; codes = c; slow = f; kept = m }))
 
 -- one of four checks that fails gives its number, and no other is given
 among : (P : ℕ → Type 0) → P 0 → P 8 → P 9 → P 10 → P 11 → (a b c e : Bool) → P (firstBad 0 ((8, a) ∷ (9, b) ∷ (10, c) ∷ (11, e) ∷ []))
@@ -141,11 +141,11 @@ sample-is : (s : Session) (x : Sample) → SampledAs s x (sampleOf s x)
 unfolding refusedBy
 sample-is s x =
     among (λ n. refusedBy s x ≡ n → SampledAs s x (sampleOf s x))
-    (λ h. let m = law.accepted s x .0 h in rw (law.accepted-as s x h) (paper.SampledAs.answered (m .inside) (m .codes) (m .slow) (m .kept)))
-    (λ h. rw (law.refused-as s x 8 h (λ z. omega arith)) (paper.SampledAs.refused-8 (law.refused-8 s x .0 h)))
-    (λ h. let m = law.refused-9 s x .0 h in rw (law.refused-as s x 9 h (λ z. omega arith)) (paper.SampledAs.refused-9 (m .0) (m .1)))
-    (λ h. let m = law.refused-10 s x .0 h in rw (law.refused-as s x 10 h (λ z. omega arith)) (paper.SampledAs.refused-10 (m .0) (m .1 .0) (m .1 .1)))
-    (λ h. let m = law.refused-11 s x .0 h in rw (law.refused-as s x 11 h (λ z. omega arith)) (paper.SampledAs.refused-11 (m .0) (m .1 .0) (m .1 .1 .0) (m .1 .1 .1)))
+    (λ h. let m = refusal-laws s x .accepted .0 h in rw (refusal-laws s x .accepted-as h) (paper.SampledAs.answered (m .inside) (m .codes) (m .slow) (m .kept)))
+    (λ h. rw (refusal-laws s x .refused-as 8 h (λ z. omega arith)) (paper.SampledAs.refused-8 (refusal-laws s x .refused-8 .0 h)))
+    (λ h. let m = refusal-laws s x .refused-9 .0 h in rw (refusal-laws s x .refused-as 9 h (λ z. omega arith)) (paper.SampledAs.refused-9 (m .0) (m .1)))
+    (λ h. let m = refusal-laws s x .refused-10 .0 h in rw (refusal-laws s x .refused-as 10 h (λ z. omega arith)) (paper.SampledAs.refused-10 (m .0) (m .1 .0) (m .1 .1)))
+    (λ h. let m = refusal-laws s x .refused-11 .0 h in rw (refusal-laws s x .refused-as 11 h (λ z. omega arith)) (paper.SampledAs.refused-11 (m .0) (m .1 .0) (m .1 .1 .0) (m .1 .1 .1)))
     _ _ _ _ refl
 
 pub demand-1 : Demand1

@@ -5,10 +5,11 @@ use mathlib.Core.Bool.{Bool, true, false, _&&_, not}
 use mathlib.Core.Path.{_≡_, refl, sym, ap, _∙_}
 use mathlib.Core.List.{List, [], _∷_, _++_}
 use lib.Dec.{leb, ltb, lit≤}
-use lib.ListN.{length, List·getD-append}
+use lib.ListN.{length, take, List·getD-append}
 use borrow.Author.Tests.{leb-false, ltb-true}
 use Rattle.leaf.specs.Bytes.{byte}
-use Rattle.leaf.specs.Answers.{given}
+use Rattle.leaf.specs.Choosing.{pick}
+use Rattle.leaf.specs.Answers.{given, refused}
 use Rattle.card.specs.declared.Settings.{Settings}
 use Rattle.card.specs.Card.{speaks}
 use Rattle.card.specs.Reading.{readCard}
@@ -19,27 +20,60 @@ use Rattle.step.specs.declared.Answer.{Answer}
 use Rattle.session.specs.declared.Outcome.{Outcome}
 use Rattle.session.specs.declared.Outcome.the-variants.{Answered, Refused}
 use Rattle.session.specs.declared.Sample.{Sample}
+use Rattle.session.specs.Types.{typeAllowed}
+use Rattle.session.specs.Session.{freshSession, openSession, settingsInside}
+use Rattle.session.specs.Runs.{outcomes}
+use Rattle.rides.specs.Recording.{trainOf, samplesOf}
+use Rattle.printed.specs.declared.Columns.{Columns}
+use Rattle.printed.specs.Printed.{highest, printedRide}
 use Rattle.printed.proofs.Silence.{print-silence}
 use Rattle.demands.specs.Runs.{rideOf, firstOf}
 use Rattle.demands.specs.Speaks.{untilSpeaks}
 use Rattle.demands.specs.Examples.{settings-R, settings-P, card-R}
-use Rattle.demands.specs.Demand3.{SameSpeaking, Demand3, HypothesesMet, Partings}
+use Rattle.demands.specs.Demand3.{SameSpeaking, firstLines, Demand3, HypothesesMet, Partings}
 use Rattle.demands.proofs.Later.{later}
-use Rattle.demands.proofs.Cards.{its-settings, its-range, common, rides-alike}
+use Rattle.demands.proofs.Alike.{alike-fresh}
+use Rattle.demands.proofs.Cards.{its-settings, its-range, common, opens, rides-alike}
+use Rattle.demands.proofs.Prints.{prints-alike}
 use Rattle.demands.proofs.Computes.{card, definitions}
 
 -- ---- the demand
 
 module _ (a b : List ℕ) (h g : ℕ) (s t : Settings) (read-a : readCard a h ≡ given s) (read-b : readCard b g ≡ given t) (same : Same a b 3 39) where
+  settings-same : byte a 2 ≡ 1 → byte b 2 ≡ 2 → byte b 39 ≡ 0 → s ≡ t
+  settings-same one two none = its-settings a h s read-a ∙ same-card a b one two same none ∙ sym (its-settings b g t read-b)
+
   same-rides : byte a 2 ≡ 1 → byte b 2 ≡ 2 → byte b 39 ≡ 0 → (train : ℕ) (xs : List Sample) → rideOf a h train xs ≡ rideOf b g train xs
-  same-rides one two none train xs =
-      let e : s ≡ t = its-settings a h s read-a ∙ same-card a b one two same none ∙ sym (its-settings b g t read-b) in
-      rw (read-a, read-b, e)
+  same-rides one two none train xs = rw (read-a, read-b, settings-same one two none)
+
+  -- their settings are the same but for later functions
+  settings-alike : t ≡ later s t
+  settings-alike = rw (its-settings a h s read-a, its-settings b g t read-b) (common a b same)
 
   alike-rides : (train : ℕ) (xs : List Sample) → firstOf (untilSpeaks s t train xs) (rideOf a h train xs) ≡ firstOf (untilSpeaks s t train xs) (rideOf b g train xs)
   alike-rides train xs =
-      let e : t ≡ later s t = rw (its-settings a h s read-a, its-settings b g t read-b) (common a b same) in
+      let e = settings-alike in
       rw (read-a, read-b, e) (rides-alike s t train xs (its-range a h s read-a) (rw e at (its-range b g t read-b)))
+
+-- the same, printed
+module _ (columns : Columns) (a b recording : List ℕ) (s t : Settings) (read-a : readCard a highest ≡ given s) (read-b : readCard b highest ≡ given t) (same : Same a b 3 39) where
+  same-prints : byte a 2 ≡ 1 → byte b 2 ≡ 2 → byte b 39 ≡ 0 → printedRide columns a recording ≡ printedRide columns b recording
+  unfolding printedRide
+  same-prints one two none = rw (read-a, read-b, settings-same a b highest highest s t read-a read-b same one two none)
+
+  alike-prints :
+      (let k = untilSpeaks s t (trainOf recording) (samplesOf recording) in
+      firstLines (printedRide columns a recording) (suc k) ≡ firstLines (printedRide columns b recording) (suc k))
+  alike-prints =
+      let train = trainOf recording in
+      let xs = samplesOf recording in
+      let one = settings-alike a b highest highest s t read-a read-b same in
+      let inside = its-range a highest s read-a in
+      let also : settingsInside (later s t) ≡ true = rw one at (its-range b highest t read-b) in
+      let k = untilSpeaks s t train xs in
+      let alike : take k (outcomes (freshSession s train) xs) ≡ take k (outcomes (freshSession t train) xs) = rw one (alike-fresh s t train inside also xs) in
+      let opens-t : openSession t train ≡ pick (typeAllowed train (s .vmax)) (given (freshSession t train)) (refused 7) = rw one (opens (later s t) train also) in
+      prints-alike columns s t recording k (typeAllowed train (s .vmax)) (opens s train inside) opens-t alike a b read-a read-b
 
 pub demand-3 : Demand3
 demand-3 =
@@ -48,6 +82,8 @@ demand-3 =
       versions-silent = λ a b h g s t read-a read-b one two same none. same-rides a b h g s t read-a read-b same one two none;
       functions-silent = alike-rides;
       version-2-refused = λ area long two. let e = knows-1-refuses-2 area long two in (e, λ train xs. rw e);
+      versions-print = λ columns a b recording s t read-a read-b one two same none. same-prints columns a b recording s t read-a read-b same one two none;
+      functions-print = alike-prints;
       silent-print = λ columns a b recording m. print-silence columns a b recording (m .whole-a) (m .whole-b) (m .same);
     }
 

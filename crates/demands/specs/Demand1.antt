@@ -29,11 +29,11 @@ use Rattle.session.specs.declared.Session.{Session}
 use Rattle.session.specs.declared.Sampled.{Sampled}
 use Rattle.session.specs.declared.Outcome.the-variants.{Refused}
 use Rattle.session.specs.Types.{typeAllowed}
-use Rattle.session.specs.Session.{freshSession, openSession, carried, ranOf, sampleOf}
+use Rattle.session.specs.Session.{openingVersion, freshSession, openSession, carried, ranOf, sampleOf}
 use Rattle.rides.specs.Ride.{startRide}
-use Rattle.rides.proofs.Recordings.{RecordingMet}
+use Rattle.rides.specs.Recording.{RecordingMet}
 use Rattle.laws.specs.Ranges.{Inside}
-use Rattle.laws.specs.OutOfRange.{CodesMet, ModeMet}
+use Rattle.laws.specs.Refusals.{CodesMet, ModeMet}
 
 -- the answer is due, and nothing else is
 abbrev pub Exactly : {A : Type 0} → A → (A → Type 0) → Type 0
@@ -81,9 +81,9 @@ pub record Demand1 : Type 0 where
   pub write-unchanged : (version : ℕ) (s : Settings) (buffer : List ℕ) → (writeCard version s (length buffer) ≡ given written → ⊥)
       → leaves (writeCard version s (length buffer)) version s buffer ≡ buffer
   -- settings and a train type to open
-  pub open-answered : (s : Settings) (train : ℕ) → SettingsMet 2 s → typeAllowed train (s .vmax) ≡ true → openSession s train ≡ given (freshSession s train)
-  pub open-refused : (s : Settings) (train n : ℕ) → openSession s train ≡ refused n → (n ≡ 7) × SettingsMet 2 s × (typeAllowed train (s .vmax) ≡ false)
-  pub open-refused-at : (s : Settings) (train n place : ℕ) → openSession s train ≡ refusedAt n place → (n ≡ 5) × FirstFault place (checksOf 2 s)
+  pub open-answered : (s : Settings) (train : ℕ) → SettingsMet openingVersion s → typeAllowed train (s .vmax) ≡ true → openSession s train ≡ given (freshSession s train)
+  pub open-refused : (s : Settings) (train n : ℕ) → openSession s train ≡ refused n → (n ≡ 7) × SettingsMet openingVersion s × (typeAllowed train (s .vmax) ≡ false)
+  pub open-refused-at : (s : Settings) (train n place : ℕ) → openSession s train ≡ refusedAt n place → (n ≡ 5) × FirstFault place (checksOf openingVersion s)
   -- a recording
   pub recording-answered : (s : Settings) (recording : List ℕ) (n : ℕ) → RecordingMet recording n → startRide s recording ≡ openSession s (byte recording 5)
   pub recording-refused : (s : Settings) (recording : List ℕ) → ((n : ℕ) → RecordingMet recording n → ⊥) → startRide s recording ≡ refused 14

@@ -3,7 +3,7 @@
 --
 -- The sessions are those that opening and `sampleOf` make; each definition stands in the crate of its layer,
 -- with document 01's sentence above it.
-use Prim.Native.Nat.{ℕ, _*_, _≤_}
+use Prim.Native.Nat.{ℕ, _≤_}
 use mathlib.Core.List.{List}
 use mathlib.Core.Logic.{_↔_}
 use mathlib.Core.Path.{_≡_}
@@ -13,15 +13,13 @@ use Rattle.card.specs.declared.Settings.{Settings}
 use Rattle.card.specs.Plain.{CardMet, WriteMet}
 use Rattle.card.specs.Reading.{settingsOf, readCard}
 use Rattle.card.specs.Writing.{writeCard, written, leaves}
-use Rattle.step.specs.Step.{stepOf}
 use Rattle.session.specs.declared.Sample.{Sample}
 use Rattle.session.specs.declared.Session.{Session}
 use Rattle.session.specs.declared.Outcome.the-variants.{Answered}
-use Rattle.session.specs.Types.{typeSpeed}
-use Rattle.session.specs.Session.{freshSession, openSession, carried, sampleOf}
+use Rattle.session.specs.Session.{freshSession, openSession, carried, stepped, sampleOf}
+use Rattle.session.specs.Runs.{after}
 use Rattle.laws.specs.Ranges.{Inside}
-use Rattle.laws.specs.OutOfRange.{Accepted}
-use Rattle.laws.specs.Inside.{after}
+use Rattle.laws.specs.Refusals.{Accepted}
 
 pub record Demand2 : Type 0 where
   -- "It opens in CONV with the start row as main (age 1 in the first sample), last code 0." ".. every session we make is inside": an opened
@@ -31,7 +29,7 @@ pub record Demand2 : Type 0 where
   -- "The session is handed in and handed back with each sample's answer.": each accepted sample's answer, and the desk after it, are the
   -- definition's; settings and train type stay. (What a refused one gives is demand 1's.)
   pub answered : (s : Session) (x : Sample) → Accepted s x
-      → sampleOf s x ≡ (let e = stepOf (s .settings) (typeSpeed (s .train) * 100) (carried s x) (s .desk) in
+      → sampleOf s x ≡ (let e = stepped s (carried s x) in
       record { session = record { settings = s .settings; train = s .train; desk = e .desk }; outcome = Answered (e .answer) })
   -- A card is accepted exactly when its version is known and its layout met, and it is read as the settings of its bytes.
   pub card-accepted : (area : List ℕ) (highest : ℕ) (s : Settings) → (readCard area highest ≡ given s) ↔ (CardMet area highest × (s ≡ settingsOf area))

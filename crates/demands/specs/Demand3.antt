@@ -21,7 +21,8 @@ use Rattle.session.specs.declared.Sample.{Sample}
 use Rattle.session.specs.declared.Outcome.{Outcome}
 use Rattle.text.specs.Decimal.{newline}
 use Rattle.printed.specs.declared.Columns.{Columns}
-use Rattle.printed.specs.Printed.{printedRide}
+use Rattle.rides.specs.Recording.{trainOf, samplesOf}
+use Rattle.printed.specs.Printed.{highest, printedRide}
 use Rattle.demands.specs.Runs.{rideOf, firstOf}
 use Rattle.demands.specs.Speaks.{untilSpeaks}
 use Rattle.demands.specs.Examples.{conv, bts, times, answer, shows, repeated, card-R, card-P, card-P2}
@@ -56,6 +57,14 @@ pub record Demand3 : Type 0 where
       → (readCard area 1 ≡ refused 3) × ((train : ℕ) (xs : List Sample) → rideOf area 1 train xs ≡ refused 3)
   -- The same of the printed ride. 3a: two areas with the same speaking bytes print the same text.
   pub silent-print : (columns : Columns) (a b recording : List ℕ) → SameSpeaking a b → printedRide columns a recording ≡ printedRide columns b recording
+  -- 3b: so do a version 1 card and a version 2 card with the same common settings and all four functions off.
+  pub versions-print : (columns : Columns) (a b recording : List ℕ) (s t : Settings) → readCard a highest ≡ given s → readCard b highest ≡ given t
+      → byte a 2 ≡ 1 → byte b 2 ≡ 2 → Same a b 3 39 → byte b 39 ≡ 0 → printedRide columns a recording ≡ printedRide columns b recording
+  -- 3c: two cards that differ only in later functions print the same lines, the heading and those of the samples up to, and not including,
+  -- the line of the first accepted sample at which a differing function speaks.
+  pub functions-print : (columns : Columns) (a b recording : List ℕ) (s t : Settings) → readCard a highest ≡ given s → readCard b highest ≡ given t
+      → Same a b 3 39 → (let k = untilSpeaks s t (trainOf recording) (samplesOf recording) in
+      firstLines (printedRide columns a recording) (suc k) ≡ firstLines (printedRide columns b recording) (suc k))
 
 -- ---- its hypotheses are met, by realistic cards
 

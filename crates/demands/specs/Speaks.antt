@@ -10,14 +10,14 @@ use Rattle.card.specs.declared.Settings.{Settings}
 use Rattle.card.specs.Card.{protects, zones, reminds, readsInBts}
 use Rattle.signals.specs.Stop.{firstMet}
 use Rattle.desk.specs.declared.state.Desk.{Desk}
-use Rattle.desk.specs.Clock.{sameMode, deskOlder, begun}
-use Rattle.buttons.specs.Buttons.{pressesOf}
-use Rattle.beacons.specs.Beacons.{isSide, readsOf, zoneMet}
+use Rattle.desk.specs.Clock.{sameMode, deskOlder}
+use Rattle.beacons.specs.Beacons.{isSide, zoneMet}
 use Rattle.session.specs.declared.Sample.{Sample}
 use Rattle.session.specs.declared.Session.{Session}
 use Rattle.session.specs.Types.{typeSpeed}
-use Rattle.session.specs.Session.{inBts, freshSession}
-use Rattle.demands.specs.Runs.{after, accepted}
+use Rattle.session.specs.Session.{inBts, freshSession, carried, sampleOf}
+use Rattle.session.specs.Runs.{accepted}
+use Rattle.step_laws.specs.Walk.{atBeacon, readsAt}
 
 -- ---- where in the sample a rule is looked at
 
@@ -30,10 +30,8 @@ abbrev pub atReminders : Session → Sample → Desk
 atReminders s x = deskOlder (travelled s x) (s .desk)
 
 -- the desk after mode, ages, misses and buttons, where the beacon is looked at
-abbrev pub atBeacon : Session → Sample → Desk
-atBeacon s x =
-    pressesOf (x .buttons) (travelled s x) (s .settings .limit) (typeSpeed (s .train) * 100)
-    (begun (inBts (x .mode)) (travelled s x) (reminds (s .settings .functions)) (s .settings .x) (s .settings .y) (s .desk) .desk)
+abbrev pub beforeBeacon : Session → Sample → Desk
+beforeBeacon s x = atBeacon (s .settings) (typeSpeed (s .train) * 100) (carried s x) (s .desk)
 
 -- ---- the later functions
 
@@ -56,8 +54,7 @@ crossingFunction = record { differs = bitDiffers protects; speaks = λ s x. eqb 
 
 -- "bit 1 meets the stop-zone rule with the bit ignored": "beacon 7 read while row 4 is main and under 80 m from its reading"
 unfoldable pub meetsZone : Session → Sample → Bool
-meetsZone s x =
-    eqb (x .beacon) 7 && readsOf (x .beacon) (readsInBts (s .settings .functions)) (atBeacon s x .bts) (atBeacon s x .code) && zoneMet (atBeacon s x)
+meetsZone s x = eqb (x .beacon) 7 && readsAt (s .settings) (carried s x) (beforeBeacon s x) && zoneMet (beforeBeacon s x)
 
 abbrev pub zoneFunction : Later
 zoneFunction = record { differs = bitDiffers zones; speaks = meetsZone }
@@ -94,7 +91,7 @@ differingSpeaks s t x = someSpeaks laterFunctions s t x
 -- how many samples there are up to, and not including, the first accepted one at which a differing function speaks
 unfoldable pub silentFor : Session → Settings → List Sample → ℕ
 silentFor s t [] = 0
-silentFor s t (x ∷ xs) = pick (accepted s x && differingSpeaks s t x) 0 (suc (silentFor (after s x .session) t xs))
+silentFor s t (x ∷ xs) = pick (accepted s x && differingSpeaks s t x) 0 (suc (silentFor (sampleOf s x .session) t xs))
 
 -- the same of a ride on settings s beside settings t, from its opening
 abbrev pub untilSpeaks : Settings → Settings → ℕ → List Sample → ℕ

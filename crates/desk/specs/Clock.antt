@@ -7,11 +7,11 @@ use Rattle.leaf.specs.Choosing.{pick}
 use Rattle.signals.specs.declared.control.MainKind.the-variants.{Announcement}
 use Rattle.signals.specs.Windows.{closed, windowOlder, missedOf, asksOf}
 use Rattle.signals.specs.MainControl.{mainOlder}
-use Rattle.signals.specs.Stop.{alongsideOlder, overrideOlder, reminderOlder, remindedOf, reminderMissed}
-use Rattle.sides.specs.Crossing.{crossingOlder, optionOlder}
-use Rattle.sides.specs.Limit.{limitOlder}
+use Rattle.signals.specs.Stop.{overrideOlder, reminderOlder, remindedOf, reminderMissed}
+use Rattle.sides.specs.Crossing.{optionOlder}
 use Rattle.desk.specs.declared.state.Desk.{Desk}
 use Rattle.desk.specs.declared.clock.Turn.{Turn}
+use Rattle.desk.specs.Beside.{besideOlder}
 use Rattle.desk.specs.State.{withWindow, withSide, withReminder, takenOver, crossingSet, modeChanged}
 
 -- the sample's mode is the desk's
@@ -24,16 +24,14 @@ deskOlder m d =
     record {
       bts = d .bts;
       code = d .code;
-      cause = d .cause;
+      brake = d .brake;
       main = mainOlder m (d .main);
       window = windowOlder m (d .window);
       side = windowOlder m (d .side);
-      alongside = alongsideOlder (d .alongside);
       armed = overrideOlder (d .armed);
       reminder = reminderOlder m (d .reminder);
-      crossing = crossingOlder m (d .crossing);
       option = optionOlder m (d .option);
-      limit = limitOlder (d .limit);
+      beside = besideOlder m (d .beside);
     }
 
 -- "reminders"

@@ -1,2 +1,5 @@
+pub mod Brake
+pub mod Beside
 pub mod State
 pub mod Clock
+pub mod Ranges

@@ -1,4 +1,4 @@
--- Document 01, "The sample" and "Controls": the desk's members together.
+-- Document 01, "The sample" and "Controls": the desk's members together. What lives and dies together is a part: `Brake`, `Beside`.
 use Prim.Native.Nat.{ℕ}
 use mathlib.Core.Bool.{Bool, true, false}
 use Rattle.leaf.specs.Choosing.{pick}
@@ -12,51 +12,63 @@ use Rattle.signals.specs.declared.stop.Phase.the-variants.{Off}
 use Rattle.signals.specs.declared.stop.Reminder.{Reminder}
 use Rattle.signals.specs.Windows.{closed}
 use Rattle.signals.specs.MainControl.{mainOf}
-use Rattle.signals.specs.Stop.{noneAlongside, alongsideAfter, disarmed, freshAs}
+use Rattle.signals.specs.Stop.{alongsideAfter, disarmed, freshAs}
 use Rattle.sides.specs.declared.crossing.Crossing.{Crossing}
 use Rattle.sides.specs.declared.crossing.CrossingOption.{CrossingOption}
 use Rattle.sides.specs.declared.limit.Limit.{Limit}
-use Rattle.sides.specs.Crossing.{noCrossing, noOption, unprotectedSet}
-use Rattle.sides.specs.Limit.{noLimit, limitSet}
+use Rattle.sides.specs.Crossing.{noOption, unprotectedSet}
+use Rattle.sides.specs.Limit.{limitSet}
+use Rattle.desk.specs.declared.brake.Brake.{Brake}
+use Rattle.desk.specs.declared.beside.Beside.{Beside}
 use Rattle.desk.specs.declared.state.Desk.{Desk}
+use Rattle.desk.specs.Brake.{noBrake, brakeWithCause}
+use Rattle.desk.specs.Beside.{nothingBeside, besideWithAlongside, besideWithCrossing, besideWithLimit}
 
 -- ---- a desk with one member changed
 
 abbrev pub withBts : Bool → Desk → Desk
-withBts bts d = record { bts = bts; code = d .code; cause = d .cause; main = d .main; window = d .window; side = d .side; alongside = d .alongside; armed = d .armed; reminder = d .reminder; crossing = d .crossing; option = d .option; limit = d .limit }
+withBts bts d = record { bts = bts; code = d .code; brake = d .brake; main = d .main; window = d .window; side = d .side; armed = d .armed; reminder = d .reminder; option = d .option; beside = d .beside }
 
 abbrev pub withCode : ℕ → Desk → Desk
-withCode code d = record { bts = d .bts; code = code; cause = d .cause; main = d .main; window = d .window; side = d .side; alongside = d .alongside; armed = d .armed; reminder = d .reminder; crossing = d .crossing; option = d .option; limit = d .limit }
+withCode code d = record { bts = d .bts; code = code; brake = d .brake; main = d .main; window = d .window; side = d .side; armed = d .armed; reminder = d .reminder; option = d .option; beside = d .beside }
 
-abbrev pub withCause : ℕ → Desk → Desk
-withCause cause d = record { bts = d .bts; code = d .code; cause = cause; main = d .main; window = d .window; side = d .side; alongside = d .alongside; armed = d .armed; reminder = d .reminder; crossing = d .crossing; option = d .option; limit = d .limit }
+abbrev pub withBrake : Brake → Desk → Desk
+withBrake brake d = record { bts = d .bts; code = d .code; brake = brake; main = d .main; window = d .window; side = d .side; armed = d .armed; reminder = d .reminder; option = d .option; beside = d .beside }
 
 abbrev pub withMain : Main → Desk → Desk
-withMain main d = record { bts = d .bts; code = d .code; cause = d .cause; main = main; window = d .window; side = d .side; alongside = d .alongside; armed = d .armed; reminder = d .reminder; crossing = d .crossing; option = d .option; limit = d .limit }
+withMain main d = record { bts = d .bts; code = d .code; brake = d .brake; main = main; window = d .window; side = d .side; armed = d .armed; reminder = d .reminder; option = d .option; beside = d .beside }
 
 abbrev pub withWindow : Window → Desk → Desk
-withWindow window d = record { bts = d .bts; code = d .code; cause = d .cause; main = d .main; window = window; side = d .side; alongside = d .alongside; armed = d .armed; reminder = d .reminder; crossing = d .crossing; option = d .option; limit = d .limit }
+withWindow window d = record { bts = d .bts; code = d .code; brake = d .brake; main = d .main; window = window; side = d .side; armed = d .armed; reminder = d .reminder; option = d .option; beside = d .beside }
 
 abbrev pub withSide : Window → Desk → Desk
-withSide side d = record { bts = d .bts; code = d .code; cause = d .cause; main = d .main; window = d .window; side = side; alongside = d .alongside; armed = d .armed; reminder = d .reminder; crossing = d .crossing; option = d .option; limit = d .limit }
-
-abbrev pub withAlongside : Alongside → Desk → Desk
-withAlongside alongside d = record { bts = d .bts; code = d .code; cause = d .cause; main = d .main; window = d .window; side = d .side; alongside = alongside; armed = d .armed; reminder = d .reminder; crossing = d .crossing; option = d .option; limit = d .limit }
+withSide side d = record { bts = d .bts; code = d .code; brake = d .brake; main = d .main; window = d .window; side = side; armed = d .armed; reminder = d .reminder; option = d .option; beside = d .beside }
 
 abbrev pub withArmed : Override → Desk → Desk
-withArmed armed d = record { bts = d .bts; code = d .code; cause = d .cause; main = d .main; window = d .window; side = d .side; alongside = d .alongside; armed = armed; reminder = d .reminder; crossing = d .crossing; option = d .option; limit = d .limit }
+withArmed armed d = record { bts = d .bts; code = d .code; brake = d .brake; main = d .main; window = d .window; side = d .side; armed = armed; reminder = d .reminder; option = d .option; beside = d .beside }
 
 abbrev pub withReminder : Reminder → Desk → Desk
-withReminder reminder d = record { bts = d .bts; code = d .code; cause = d .cause; main = d .main; window = d .window; side = d .side; alongside = d .alongside; armed = d .armed; reminder = reminder; crossing = d .crossing; option = d .option; limit = d .limit }
-
-abbrev pub withCrossing : Crossing → Desk → Desk
-withCrossing crossing d = record { bts = d .bts; code = d .code; cause = d .cause; main = d .main; window = d .window; side = d .side; alongside = d .alongside; armed = d .armed; reminder = d .reminder; crossing = crossing; option = d .option; limit = d .limit }
+withReminder reminder d = record { bts = d .bts; code = d .code; brake = d .brake; main = d .main; window = d .window; side = d .side; armed = d .armed; reminder = reminder; option = d .option; beside = d .beside }
 
 abbrev pub withOption : CrossingOption → Desk → Desk
-withOption option d = record { bts = d .bts; code = d .code; cause = d .cause; main = d .main; window = d .window; side = d .side; alongside = d .alongside; armed = d .armed; reminder = d .reminder; crossing = d .crossing; option = option; limit = d .limit }
+withOption option d = record { bts = d .bts; code = d .code; brake = d .brake; main = d .main; window = d .window; side = d .side; armed = d .armed; reminder = d .reminder; option = option; beside = d .beside }
+
+abbrev pub withBeside : Beside → Desk → Desk
+withBeside beside d = record { bts = d .bts; code = d .code; brake = d .brake; main = d .main; window = d .window; side = d .side; armed = d .armed; reminder = d .reminder; option = d .option; beside = beside }
+
+-- ---- a desk with one member of a part changed
+
+abbrev pub withCause : ℕ → Desk → Desk
+withCause cause d = withBrake (brakeWithCause cause (d .brake)) d
+
+abbrev pub withAlongside : Alongside → Desk → Desk
+withAlongside alongside d = withBeside (besideWithAlongside alongside (d .beside)) d
+
+abbrev pub withCrossing : Crossing → Desk → Desk
+withCrossing crossing d = withBeside (besideWithCrossing crossing (d .beside)) d
 
 abbrev pub withLimit : Limit → Desk → Desk
-withLimit limit d = record { bts = d .bts; code = d .code; cause = d .cause; main = d .main; window = d .window; side = d .side; alongside = d .alongside; armed = d .armed; reminder = d .reminder; crossing = d .crossing; option = d .option; limit = limit }
+withLimit limit d = withBeside (besideWithLimit limit (d .beside)) d
 
 -- ---- main controls
 
@@ -65,15 +77,15 @@ withLimit limit d = record { bts = d .bts; code = d .code; cause = d .cause; mai
 unfoldable pub takenOver : MainKind → ℕ → ℕ → Desk → Desk
 takenOver kind age distance d =
     withMain (mainOf kind age distance)
-    (withReminder (freshAs Off) (withAlongside (alongsideAfter (d .main) (d .alongside)) d))
+    (withReminder (freshAs Off) (withAlongside (alongsideAfter (d .main) (d .beside .alongside)) d))
 
 -- an unprotected crossing, with the age and distance of the reading that sets it
 unfoldable pub crossingSet : ℕ → ℕ → Desk → Desk
-crossingSet age distance d = withCrossing (unprotectedSet age distance (d .crossing)) d
+crossingSet age distance d = withCrossing (unprotectedSet age distance (d .beside .crossing)) d
 
 -- the limit, set by a reading of this age
 unfoldable pub limitNow : ℕ → Desk → Desk
-limitNow age d = withLimit (limitSet age (d .limit)) d
+limitNow age d = withLimit (limitSet age (d .beside .limit)) d
 
 -- ---- opening, and the mode
 
@@ -83,16 +95,14 @@ freshDesk =
     record {
       bts = false;
       code = 0;
-      cause = 0;
+      brake = noBrake;
       main = mainOf Start 0 0;
       window = closed;
       side = closed;
-      alongside = noneAlongside;
       armed = disarmed;
       reminder = freshAs Off;
-      crossing = noCrossing;
       option = noOption;
-      limit = noLimit;
+      beside = nothingBeside;
     }
 
 -- the main control that a mode change leaves: none on entering BTS, start on leaving it
@@ -102,4 +112,4 @@ restingOf false = mainOf Start 0 0
 
 -- "BTS: entering drops all controls, windows and armed override; leaving drops them and sets start." The last code and the brake stay.
 unfoldable pub modeChanged : Bool → Desk → Desk
-modeChanged bts d = withMain (restingOf bts) (withCause (d .cause) (withCode (d .code) (withBts bts freshDesk)))
+modeChanged bts d = withMain (restingOf bts) (withBrake (d .brake) (withCode (d .code) (withBts bts freshDesk)))

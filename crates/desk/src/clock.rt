@@ -24,28 +24,25 @@ fn miss_cause(main: bool, side: bool, reminder: bool) -> u8
 fn older(d: Desk, m: u32) -> Desk
     ensures { λ r. ⌜ r ≡ deskOlder m d ⌝ }
 {
+    let brake = d.brake;
     let main = d.main;
     let window = d.window;
     let side = d.side;
-    let alongside = d.alongside;
     let armed = d.armed;
     let reminder = d.reminder;
-    let crossing = d.crossing;
     let option = d.option;
-    let limit = d.limit;
+    let beside = d.beside;
     Desk {
         bts: d.bts,
         code: d.code,
-        cause: d.cause,
+        brake: brake,
         main: main.older(m),
         window: window.older(m),
         side: side.older(m),
-        alongside: alongside.older(),
         armed: armed.older(),
         reminder: reminder.older(m),
-        crossing: crossing.older(m),
         option: option.older(m),
-        limit: limit.older(),
+        beside: beside.older(m),
     }
 }
 

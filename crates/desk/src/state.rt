@@ -1,4 +1,6 @@
 // The desk's state: its members, what each new main control does to them, and what a mode change drops.
+use crate::beside::Beside;
+use crate::brake::Brake;
 use sides::crossing::Crossing;
 use sides::crossing::CrossingOption;
 use sides::limit::Limit;
@@ -10,22 +12,20 @@ use signals::stop::Phase;
 use signals::stop::Reminder;
 use signals::window::Window;
 ghost use mathlib.Core.Path.{_≡_};
-ghost use Rattle.desk.specs.State.{withBts, withCode, withCause, withMain, withWindow, withSide, withAlongside, withArmed, withReminder, withCrossing, withOption, withLimit, takenOver, crossingSet, limitNow, freshDesk, restingOf, modeChanged};
+ghost use Rattle.desk.specs.State.{withBts, withCode, withBrake, withMain, withWindow, withSide, withArmed, withReminder, withOption, withBeside, withCause, withAlongside, withCrossing, withLimit, takenOver, crossingSet, limitNow, freshDesk, restingOf, modeChanged};
 
-// `bts` is the mode, `code` the last code, `cause` the one that stands (0: no brake). `window` is the main window.
+// `bts` is the mode, `code` the last code, `window` the main window.
 pub struct Desk {
     pub bts: bool,
     pub code: u8,
-    pub cause: u8,
+    pub brake: Brake,
     pub main: Main,
     pub window: Window,
     pub side: Window,
-    pub alongside: Alongside,
     pub armed: Override,
     pub reminder: Reminder,
-    pub crossing: Crossing,
     pub option: CrossingOption,
-    pub limit: Limit,
+    pub beside: Beside,
 }
 
 impl Desk {
@@ -43,10 +43,10 @@ impl Desk {
         self
     }
 
-    pub fn with_cause(mut self, cause: u8) -> Desk
-        ensures { λ r. ⌜ r ≡ withCause cause self ⌝ }
+    pub fn with_brake(mut self, brake: Brake) -> Desk
+        ensures { λ r. ⌜ r ≡ withBrake brake self ⌝ }
     {
-        self.cause = cause;
+        self.brake = brake;
         self
     }
 
@@ -71,13 +71,6 @@ impl Desk {
         self
     }
 
-    pub fn with_alongside(mut self, alongside: Alongside) -> Desk
-        ensures { λ r. ⌜ r ≡ withAlongside alongside self ⌝ }
-    {
-        self.alongside = alongside;
-        self
-    }
-
     pub fn with_armed(mut self, armed: Override) -> Desk
         ensures { λ r. ⌜ r ≡ withArmed armed self ⌝ }
     {
@@ -92,13 +85,6 @@ impl Desk {
         self
     }
 
-    pub fn with_crossing(mut self, crossing: Crossing) -> Desk
-        ensures { λ r. ⌜ r ≡ withCrossing crossing self ⌝ }
-    {
-        self.crossing = crossing;
-        self
-    }
-
     pub fn with_option(mut self, option: CrossingOption) -> Desk
         ensures { λ r. ⌜ r ≡ withOption option self ⌝ }
     {
@@ -106,11 +92,39 @@ impl Desk {
         self
     }
 
-    pub fn with_limit(mut self, limit: Limit) -> Desk
+    pub fn with_beside(mut self, beside: Beside) -> Desk
+        ensures { λ r. ⌜ r ≡ withBeside beside self ⌝ }
+    {
+        self.beside = beside;
+        self
+    }
+
+    pub fn with_cause(self, cause: u8) -> Desk
+        ensures { λ r. ⌜ r ≡ withCause cause self ⌝ }
+    {
+        let brake = self.brake;
+        self.with_brake(brake.with_cause(cause))
+    }
+
+    pub fn with_alongside(self, alongside: Alongside) -> Desk
+        ensures { λ r. ⌜ r ≡ withAlongside alongside self ⌝ }
+    {
+        let beside = self.beside;
+        self.with_beside(beside.with_alongside(alongside))
+    }
+
+    pub fn with_crossing(self, crossing: Crossing) -> Desk
+        ensures { λ r. ⌜ r ≡ withCrossing crossing self ⌝ }
+    {
+        let beside = self.beside;
+        self.with_beside(beside.with_crossing(crossing))
+    }
+
+    pub fn with_limit(self, limit: Limit) -> Desk
         ensures { λ r. ⌜ r ≡ withLimit limit self ⌝ }
     {
-        self.limit = limit;
-        self
+        let beside = self.beside;
+        self.with_beside(beside.with_limit(limit))
     }
 
     // A main control other than stop takes over, with the age and distance that its setting gives it.
@@ -118,7 +132,7 @@ impl Desk {
         ensures { λ r. ⌜ r ≡ takenOver kind age distance self ⌝ }
     {
         let main = self.main;
-        let alongside = self.alongside;
+        let alongside = self.beside.alongside;
         self.with_alongside(alongside.after(main))
             .with_reminder(Reminder::fresh(Phase::Off))
             .with_main(Main::new(kind, age, distance))
@@ -128,7 +142,7 @@ impl Desk {
     pub fn set_unprotected(self, age: u16, distance: u32) -> Desk
         ensures { λ r. ⌜ r ≡ crossingSet age distance self ⌝ }
     {
-        let crossing = self.crossing;
+        let crossing = self.beside.crossing;
         self.with_crossing(crossing.set_unprotected(age, distance))
     }
 
@@ -136,7 +150,7 @@ impl Desk {
     pub fn set_limit(self, age: u16) -> Desk
         ensures { λ r. ⌜ r ≡ limitNow age self ⌝ }
     {
-        let limit = self.limit;
+        let limit = self.beside.limit;
         self.with_limit(limit.set(age))
     }
 
@@ -147,16 +161,14 @@ impl Desk {
         Desk {
             bts: false,
             code: 0,
-            cause: 0,
+            brake: Brake::off(),
             main: Main::new(MainKind::Start, 0, 0),
             window: Window::closed(),
             side: Window::closed(),
-            alongside: Alongside::none(),
             armed: Override::disarmed(),
             reminder: Reminder::fresh(Phase::Off),
-            crossing: Crossing::none(),
             option: CrossingOption::none(),
-            limit: Limit::none(),
+            beside: Beside::nothing(),
         }
     }
 
@@ -164,10 +176,11 @@ impl Desk {
     pub fn change_mode(self, bts: bool) -> Desk
         ensures { λ r. ⌜ r ≡ modeChanged bts self ⌝ }
     {
+        let brake = self.brake;
         Desk::fresh()
             .with_bts(bts)
             .with_code(self.code)
-            .with_cause(self.cause)
+            .with_brake(brake)
             .with_main(resting(bts))
     }
 }

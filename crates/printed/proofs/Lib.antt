@@ -2,4 +2,5 @@ pub mod Texts
 pub mod Room
 pub mod Silence
 pub mod End
+pub mod Lines
 pub mod Examples

@@ -10,7 +10,7 @@ use Rattle.step.specs.declared.Answer.{Answer as Told}
 use Rattle.session.specs.declared.Session.{Session}
 use Rattle.text.specs.Decimal.{ended, newline, line}
 use Rattle.rides.specs.Recording.{samplesIn}
-use Rattle.rides.specs.Ride.{startRide, freshRide, rideAfter, turnAt}
+use Rattle.rides.specs.Ride.{startRide, freshRide, rideAfter, turnAt, wholeRide}
 use Rattle.rides.specs.declared.ride.Ride.{Ride}
 use Rattle.rides.specs.declared.ride.Shown.{Shown}
 use Rattle.rides.specs.declared.ride.Shown.the-variants as shown
@@ -78,5 +78,32 @@ cardText columns recording n (refused m) = refusedLine m
 cardText columns recording n (refusedAt m place) = refusedLine m
 
 -- "The ride program prints the heading, then reads the card (highest 2) from a file and the ride from standard input."
+abbrev pub highest : ℕ
+highest = 2
+
 unfoldable pub printedRide : Columns → List ℕ → List ℕ → List ℕ
-printedRide columns card recording = heading columns ++ cardText columns recording (samplesIn recording) (readCard card 2)
+printedRide columns card recording = heading columns ++ cardText columns recording (samplesIn recording) (readCard card highest)
+
+-- ---- the same line by line
+
+-- what a ride shows, in order, a line each; they are numbered from n
+unfoldable pub linesFrom : Columns → ℕ → List (Answer Told) → List (List ℕ)
+linesFrom columns n [] = []
+linesFrom columns n (given a ∷ rest) = line n (columnsOf columns a) ∷ linesFrom columns (suc n) rest
+linesFrom columns n (refused m ∷ rest) = refusedLine m ∷ linesFrom columns (suc n) rest
+linesFrom columns n (refusedAt m place ∷ rest) = refusedLine m ∷ linesFrom columns (suc n) rest
+
+-- the lines of a whole ride, or the one that refuses it
+abbrev pub rideLines : Columns → Answer (List (Answer Told)) → List (List ℕ)
+rideLines columns (given shown) = linesFrom columns 1 shown
+rideLines columns (refused m) = refusedLine m ∷ []
+rideLines columns (refusedAt m place) = refusedLine m ∷ []
+
+-- the ride on a card that was read, or not
+abbrev pub rideOn : Answer Settings → List ℕ → Answer (List (Answer Told))
+rideOn (given settings) recording = wholeRide settings recording
+rideOn (refused m) recording = refused m
+rideOn (refusedAt m place) recording = refusedAt m place
+
+unfoldable pub printedLines : Columns → List ℕ → List ℕ → List (List ℕ)
+printedLines columns card recording = heading columns ∷ rideLines columns (rideOn (readCard card highest) recording)

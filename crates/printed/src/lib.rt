@@ -25,6 +25,9 @@ const BLANK: u8 = 0x20;
 
 const NEWLINE: u8 = 0x0A;
 
+// The highest version of a card that is read.
+const HIGHEST: u8 = 2;
+
 // Which columns are printed: document 01's, the sample's number, S, lamps and cause; or with them the rest of the answer, icon and
 // limit standing.
 pub enum Columns {
@@ -143,7 +146,7 @@ fn put_ride(columns: Columns, card: &[u8], recording: &[u8], out: &mut [u8]) -> 
     ensures { λ r. ⌜ (now (out .exit), r) ≡ typed (printedRide columns (now (card .entry)) (now (recording .entry))) (now (out .entry), 0) ⌝ }
 {
     let at = put_heading(columns, out, 0);
-    let reading = card::read(card, 2);
+    let reading = card::read(card, HIGHEST);
     let n = samples(recording);
     put_read(columns, reading, recording, n, out, at)
 }

@@ -1,2 +1,4 @@
 pub mod Recordings
 pub mod Runs
+pub mod Refusals
+pub mod Determined

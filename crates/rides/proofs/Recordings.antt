@@ -9,26 +9,16 @@ use lib.Dec.{leb, eqb}
 use lib.ListN.{length, take, drop}
 use lib.Seq.{drop-cons, take-add, take-all}
 use borrow.Author.Tests.{leb-true, le-leb, eqb-true, eq-eqb}
+use Rattle.leaf.specs.Choosing.{and-split}
 use Rattle.leaf.specs.Bytes.{byte, word, long}
-use Rattle.rides.specs.Recording.{samplesIn, mostSamples, goodRecording, placeOf, sampleAt}
-
--- what 14 asks, in plain facts
-pub record RecordingMet (recording : List ℕ) (n : ℕ) : Type 0 where
-  pub stated : long recording 0 ≡ length recording
-  pub whole : length recording ≡ 6 + 6 * n
-  pub few : n ≤ 10000
-  pub version : byte recording 4 ≡ 1
-
-both : (a b : Bool) → (a && b) ≡ true → (a ≡ true) × (b ≡ true)
-both true b h = (refl, h)
-both false b h = let z : _≡_ {A = Bool} false true = h in (z, cc)
+use Rattle.rides.specs.Recording.{samplesIn, mostSamples, goodRecording, RecordingMet, placeOf, sampleAt}
 
 pub good-met : (recording : List ℕ) → goodRecording recording ≡ true → RecordingMet recording (samplesIn recording)
 unfolding goodRecording
 good-met recording h =
-    let p = both _ _ h in
-    let q = both _ _ (p .0) in
-    let r = both _ _ (q .0) in
+    let p = and-split _ _ h in
+    let q = and-split _ _ (p .0) in
+    let r = and-split _ _ (q .0) in
     record {
       stated = eqb-true _ _ (r .0);
       whole = let e : 6 + 6 * samplesIn recording ≡ length recording = eqb-true _ _ (r .1) in omega arith;

@@ -1,77 +1,187 @@
--- A ride's answers are those of a session's samples, one after the other, from the session that was opened; the first refusal ends it.
+-- A ride and a list of samples. The ride of a recording is the run of its samples in order; a run of one list and then another is the run
+-- of both; from a session that was opened it shows what the session answers, until the first refusal.
 use Prim.Native.Nat.{ℕ, zero, suc, _+_}
 use native.Mathlib.Nat.{add-zero, add-suc}
-use mathlib.Core.Path.{_≡_, refl, ap, _∙_}
-use mathlib.Core.Bool.{Bool, true, false}
-use mathlib.Core.List.{List}
+use mathlib.Core.Path.{_≡_, refl, sym, ap, _∙_}
+use mathlib.Core.Bool.{Bool, true, false, _&&_}
+use mathlib.Core.List.{List, [], _∷_, _++_, map, append-nil, append-assoc}
 use lib.Dec.{eqb}
-use Rattle.leaf.specs.Choosing.{pick}
+use lib.ListN.{take}
+use Rattle.leaf.specs.Choosing.{pick, and-split}
+use Rattle.leaf.specs.Answers.{Answer, given, refused, refusedAt}
 use Rattle.leaf.specs.declared.Refusal.the-variants.{Number}
-use Rattle.step.specs.declared.Answer.{Answer}
+use Rattle.step.specs.declared.Answer.{Answer as Told}
 use Rattle.session.specs.declared.Sample.{Sample}
 use Rattle.session.specs.declared.Session.{Session}
 use Rattle.session.specs.declared.Sampled.{Sampled}
-use Rattle.session.specs.declared.Outcome.the-variants as outcome
-use Rattle.session.specs.Session.{refusedBy, ranOf, carried, sampleOf}
-use Rattle.rides.specs.Recording.{sampleAt}
-use Rattle.rides.specs.Ride.{freshRide, toldOf, turnOf, turnAt, rideAfter}
+use Rattle.session.specs.declared.Outcome.the-variants.{Refused}
+use Rattle.session.specs.Session.{refusedBy, carried, stepped, ranOf, sampleOf, outcomeOf, answerTo}
+use Rattle.session.specs.Runs.{accepted, after, outcomes, allAccepted}
+use Rattle.session.proofs.Paper.{sample-paper}
+use Rattle.rides.specs.Recording.{sampleAt, firstSamples}
+use Rattle.rides.specs.Ride.{freshRide, toldOf, turnOf, shownOf, turnShows, turnAt, rideAfter, runOf, shownBy, untilRefused}
 use Rattle.rides.specs.declared.ride.Ride.{Ride}
-use Rattle.rides.specs.declared.ride.Shown.the-variants as shown
+use Rattle.rides.specs.declared.ride.Shown.the-variants.{Nothing}
 use Rattle.rides.specs.declared.ride.Turned.{Turned}
 
--- what the session makes of the recording's sample that k samples stand before
-abbrev pub sampledAt : Session → List ℕ → ℕ → Sampled
-sampledAt s recording k = sampleOf s (sampleAt recording k)
+-- ---- a turn
 
--- ---- one after the other
+-- what a turn shows is on paper what the sample is answered with
+pub turn-paper : (r : Ride) (x : Sample) → shownOf (turnOf r x .shown) ≡ turnShows r x
+unfolding turnOf toldOf turnShows sampleOf ranOf answerTo
+turn-paper r x = cases (eqb (r .ended) 0) (eqb (refusedBy (r .session) x) 0)
+  where
+    told : Bool → Sampled
+    told t =
+        pick t (ranOf (carried (r .session) x) (r .session)) (record { session = r .session; outcome = Refused (Number (refusedBy (r .session) x)) })
 
--- the sessions of a ride: s opened, and then each one the session after the accepted sample before it
-pub data Reaches (s : Session) (recording : List ℕ) : ℕ → Session → Type 0 where
-  opened : Reaches s recording 0 s
-  answered : {k : ℕ} {t : Session} (a : Answer) → Reaches s recording k t → sampledAt t recording k .outcome ≡ outcome.Answered a
-      → Reaches s recording (suc k) (sampledAt t recording k .session)
+    cases : (going t : Bool) → shownOf (pick going (toldOf (told t .session) (told t .outcome)) (record { ride = r; shown = Nothing }) .shown)
+        ≡ pick going (pick t (given (stepped (r .session) (carried (r .session) x) .answer)) (refused (refusedBy (r .session) x)) ∷ []) []
+    cases true true = refl
+    cases true false = refl
+    cases false true = refl
+    cases false false = refl
+
+-- so a result that is the definition's shows what the definition shows
+pub on-paper : (r : Ride) (x : Sample) (t : Turned) → t ≡ turnOf r x → (t ≡ turnOf r x) × (shownOf (t .shown) ≡ turnShows r x)
+on-paper r x t e = (e, rw e (turn-paper r x))
+
+-- an accepted sample leads to the session after it, a refused one ends the ride
+turn-accepted : (s : Session) (x : Sample) → accepted s x ≡ true → turnOf (freshRide s) x .ride ≡ freshRide (sampleOf s x .session)
+unfolding turnOf toldOf sampleOf ranOf
+turn-accepted s x e = rw e
+
+turn-refused : (s : Session) (x : Sample) → accepted s x ≡ false → turnOf (freshRide s) x .ride ≡ record { session = s; ended = refusedBy s x }
+unfolding turnOf toldOf sampleOf ranOf
+turn-refused s x e = rw e
+
+answer-accepted : (s : Session) (x : Sample) → accepted s x ≡ true → answerTo s x ≡ given (stepped s (carried s x) .answer)
+unfolding answerTo
+answer-accepted s x e = rw e
+
+answer-refused : (s : Session) (x : Sample) → accepted s x ≡ false → answerTo s x ≡ refused (refusedBy s x)
+unfolding answerTo
+answer-refused s x e = rw e
+
+-- ---- one list and then another
+
+pub run-append : (r : Ride) (xs ys : List Sample) → runOf r (xs ++ ys) ≡ runOf (runOf r xs) ys
+unfolding runOf
+run-append r [] ys = refl
+run-append r (x ∷ xs) ys = run-append (turnOf r x .ride) xs ys
+
+pub shown-append : (r : Ride) (xs ys : List Sample) → shownBy r (xs ++ ys) ≡ shownBy r xs ++ shownBy (runOf r xs) ys
+unfolding runOf shownBy
+shown-append r [] ys = refl
+shown-append r (x ∷ xs) ys =
+    let next = turnOf r x .ride in
+    ap (λ (l : List (Answer Told)). turnShows r x ++ l) (shown-append next xs ys) ∙ sym (append-assoc (turnShows r x) (shownBy next xs) (shownBy (runOf next xs) ys))
+
+-- what has ended stays as it is, and shows nothing more
+pub ended-run : (r : Ride) (xs : List Sample) → eqb (r .ended) 0 ≡ false → (runOf r xs ≡ r) × (shownBy r xs ≡ [])
+unfolding runOf shownBy turnOf turnShows
+ended-run r [] e = (refl, refl)
+ended-run r (x ∷ xs) e = let rest = ended-run r xs e in (rw e (rest .0), rw e (rest .1))
+
+-- ---- a recording's ride is the run of its samples in order
+
+pub recording-run : (r : Ride) (recording : List ℕ) (k : ℕ) → rideAfter r recording k ≡ runOf r (firstSamples recording k)
+unfolding rideAfter turnAt firstSamples runOf
+recording-run r recording zero = refl
+recording-run r recording (suc k) =
+    ap (λ (q : Ride). turnOf q (sampleAt recording k) .ride) (recording-run r recording k)
+    ∙ sym (run-append r (firstSamples recording k) (sampleAt recording k ∷ []))
+
+-- and each turn shows what comes next
+pub recording-shows : (r : Ride) (recording : List ℕ) (k : ℕ)
+    → shownBy r (firstSamples recording (suc k)) ≡ shownBy r (firstSamples recording k) ++ shownOf (turnAt (rideAfter r recording k) recording k .shown)
+unfolding turnAt firstSamples shownBy
+recording-shows r recording k =
+    shown-append r (firstSamples recording k) (sampleAt recording k ∷ [])
+    ∙ rw (← recording-run r recording k, turn-paper (rideAfter r recording k) (sampleAt recording k)) (rw append-nil)
+
+-- ---- from a session
+
+-- while every sample is accepted, the ride stands at the session after them and has shown all that the session answers
+pub ride-goes : (s : Session) (xs : List Sample) → allAccepted s xs ≡ true
+    → (runOf (freshRide s) xs ≡ freshRide (after s xs)) × (shownBy (freshRide s) xs ≡ map outcomeOf (outcomes s xs))
+unfolding runOf shownBy after outcomes allAccepted turnShows
+ride-goes s [] h = (refl, refl)
+ride-goes s (x ∷ xs) h =
+    let p = and-split (accepted s x) (allAccepted (sampleOf s x .session) xs) h in
+    let rest = ride-goes (sampleOf s x .session) xs (p .1) in
+    (rw (turn-accepted s x (p .0)) (rest .0), rw (turn-accepted s x (p .0), sample-paper s x, rest .1))
+
+-- a refused sample ends it: its number is shown, the session is as it was, and what follows is not run
+stops-at : (s : Session) (x : Sample) (ys : List Sample) → accepted s x ≡ false
+    → (runOf (freshRide s) (x ∷ ys) ≡ record { session = s; ended = refusedBy s x }) × (shownBy (freshRide s) (x ∷ ys) ≡ refused (refusedBy s x) ∷ [])
+unfolding runOf shownBy turnShows
+stops-at s x ys e =
+    let over = ended-run (record { session = s; ended = refusedBy s x }) ys e in
+    (rw (turn-refused s x e) (over .0), rw (turn-refused s x e, answer-refused s x e, over .1))
+
+-- behind accepted ones, what came before stays
+pub ride-stops : (s : Session) (xs : List Sample) (x : Sample) (ys : List Sample) → allAccepted s xs ≡ true → accepted (after s xs) x ≡ false
+    → (runOf (freshRide s) (xs ++ x ∷ ys) ≡ record { session = after s xs; ended = refusedBy (after s xs) x })
+    × (shownBy (freshRide s) (xs ++ x ∷ ys) ≡ map outcomeOf (outcomes s xs) ++ refused (refusedBy (after s xs) x) ∷ [])
+ride-stops s xs x ys h e =
+    let goes = ride-goes s xs h in
+    let stops = stops-at (after s xs) x ys e in (
+      rw (run-append (freshRide s) xs (x ∷ ys), goes .0) (stops .0),
+      rw (shown-append (freshRide s) xs (x ∷ ys), goes .1, goes .0, stops .1),
+    )
+
+-- in one: what the session answers, up to the first refusal
+pub shown-until : (s : Session) (xs : List Sample) → shownBy (freshRide s) xs ≡ untilRefused (map outcomeOf (outcomes s xs))
+unfolding shownBy outcomes turnShows untilRefused
+shown-until s [] = refl
+shown-until s (x ∷ xs) = rw (sample-paper s x) (cases (accepted s x) refl (shown-until (sampleOf s x .session) xs))
+  where
+    cases : (t : Bool) → accepted s x ≡ t
+        → shownBy (freshRide (sampleOf s x .session)) xs ≡ untilRefused (map outcomeOf (outcomes (sampleOf s x .session) xs))
+        → answerTo s x ∷ shownBy (turnOf (freshRide s) x .ride) xs ≡ untilRefused (answerTo s x ∷ map outcomeOf (outcomes (sampleOf s x .session) xs))
+    cases true e rest = rw (turn-accepted s x e, answer-accepted s x e, rest)
+    cases false e rest =
+        let over = ended-run (record { session = s; ended = refusedBy s x }) xs e in
+        rw (turn-refused s x e, answer-refused s x e, over .1)
+
+-- ---- as far as answers are the same, so is what is shown
+
+take-map : {A B : Type 0} (f : A → B) (n : ℕ) (l : List A) → take n (map f l) ≡ map f (take n l)
+take-map f zero l = refl
+take-map f (suc n) [] = refl
+take-map f (suc n) (a ∷ l) = ap (λ (m : List _). f a ∷ m) (take-map f n l)
+
+take-none : {A : Type 0} (n : ℕ) → take {A = A} n [] ≡ []
+take-none zero = refl
+take-none (suc n) = refl
+
+take-until : (n : ℕ) (l : List (Answer Told)) → take n (untilRefused l) ≡ untilRefused (take n l)
+unfolding untilRefused
+take-until zero l = refl
+take-until (suc n) [] = refl
+take-until (suc n) (given a ∷ l) = ap (λ (m : List (Answer Told)). given a ∷ m) (take-until n l)
+take-until (suc n) (refused m ∷ l) = ap (λ (r : List (Answer Told)). refused m ∷ r) (take-none n)
+take-until (suc n) (refusedAt m place ∷ l) = ap (λ (r : List (Answer Told)). refusedAt m place ∷ r) (take-none n)
+
+pub shown-alike : (s t : Session) (xs ys : List Sample) (n : ℕ) → take n (outcomes s xs) ≡ take n (outcomes t ys)
+    → take n (shownBy (freshRide s) xs) ≡ take n (shownBy (freshRide t) ys)
+shown-alike s t xs ys n e =
+    rw (shown-until s xs, shown-until t ys, take-until, take-until, take-map, take-map, e)
+
+-- ---- the end of a recording's ride
 
 -- one sample more is one turn more
 pub after-suc : (r : Ride) (recording : List ℕ) (k : ℕ) → rideAfter r recording (suc k) ≡ turnAt (rideAfter r recording k) recording k .ride
 unfolding rideAfter
 after-suc r recording k = refl
 
-turn-answers : (t : Session) (recording : List ℕ) (k : ℕ) (a : Answer) → sampledAt t recording k .outcome ≡ outcome.Answered a
-    → turnAt (freshRide t) recording k ≡ record { ride = freshRide (sampledAt t recording k .session); shown = shown.Answered a }
-unfolding turnAt turnOf toldOf
-turn-answers t recording k a e = rw e
-
-turn-refuses : (t : Session) (recording : List ℕ) (k n : ℕ) → sampledAt t recording k .outcome ≡ outcome.Refused (Number n)
-    → turnAt (freshRide t) recording k ≡ record { ride = record { session = sampledAt t recording k .session; ended = n }; shown = shown.Refused n }
-unfolding turnAt turnOf toldOf
-turn-refuses t recording k n e = rw e
-
--- where k samples are accepted, the ride stands at the session that they lead to,
-pub ride-reaches : (s t : Session) (recording : List ℕ) (k : ℕ) → Reaches s recording k t → rideAfter (freshRide s) recording k ≡ freshRide t
-unfolding rideAfter
-ride-reaches s t recording zero opened = refl
-ride-reaches s t recording (suc k) (answered {t = u} a before e) =
-    ap (λ (r : Ride). turnAt r recording k .ride) (ride-reaches s u recording k before) ∙ ap (λ (x : Turned). x .ride) (turn-answers u recording k a e)
-
--- and what its next turn shows is that session's answer,
-pub ride-answers : (s t : Session) (recording : List ℕ) (k : ℕ) (a : Answer) → Reaches s recording k t → sampledAt t recording k .outcome ≡ outcome.Answered a
-    → turnAt (rideAfter (freshRide s) recording k) recording k .shown ≡ shown.Answered a
-ride-answers s t recording k a before e = rw (ride-reaches s t recording k before, turn-answers t recording k a e)
-
--- or the number of its refusal, which ends the ride and leaves the session as it is
-pub ride-refuses : (s t : Session) (recording : List ℕ) (k n : ℕ) → Reaches s recording k t → sampledAt t recording k .outcome ≡ outcome.Refused (Number n)
-    → (turnAt (rideAfter (freshRide s) recording k) recording k .shown ≡ shown.Refused n) × (rideAfter (freshRide s) recording (suc k) .ended ≡ n)
-ride-refuses s t recording k n before e =
-    (rw (ride-reaches s t recording k before, turn-refuses t recording k n e), rw (after-suc, ride-reaches s t recording k before, turn-refuses t recording k n e))
-
--- ---- the end
-
 -- a ride that has ended shows nothing more
-pub ended-shows : (r : Ride) (recording : List ℕ) (k : ℕ) → eqb (r .ended) 0 ≡ false → turnAt r recording k .shown ≡ shown.Nothing
+pub ended-shows : (r : Ride) (recording : List ℕ) (k : ℕ) → eqb (r .ended) 0 ≡ false → turnAt r recording k .shown ≡ Nothing
 unfolding turnAt turnOf
 ended-shows r recording k e = rw e
 
-ended-turn : (r : Ride) (recording : List ℕ) (k : ℕ) → eqb (r .ended) 0 ≡ false → turnAt r recording k .ride ≡ r
+pub ended-turn : (r : Ride) (recording : List ℕ) (k : ℕ) → eqb (r .ended) 0 ≡ false → turnAt r recording k .ride ≡ r
 unfolding turnAt turnOf
 ended-turn r recording k e = rw e
 
@@ -82,14 +192,3 @@ ended-stays r recording k zero e = ap (rideAfter r recording) (add-zero k)
 ended-stays r recording k (suc j) e =
     ap (rideAfter r recording) (add-suc k j) ∙ after-suc r recording (k + j)
     ∙ ap (λ (q : Ride). turnAt q recording (k + j) .ride) (ended-stays r recording k j e) ∙ ended-turn (rideAfter r recording k) recording (k + j) e
-
--- no refusal of a sample has the number 0
-pub refused-number : (s : Session) (x : Sample) (n : ℕ) → sampleOf s x .outcome ≡ outcome.Refused (Number n) → eqb n 0 ≡ false
-unfolding sampleOf ranOf
-refused-number s x n h = cases (eqb (refusedBy s x) 0) refl h
-  where
-    cases : (t : Bool) → eqb (refusedBy s x) 0 ≡ t
-        → pick t (ranOf (carried s x) s) (record { session = s; outcome = outcome.Refused (Number (refusedBy s x)) }) .outcome ≡ outcome.Refused (Number n)
-        → eqb n 0 ≡ false
-    cases true e h = cc
-    cases false e h = let same : refusedBy s x ≡ n = cc in rw (← same) e

@@ -1,8 +1,9 @@
 -- Document 01, "A ride, whole": "Recording: length (4 bytes), version 1, train type, then six bytes a sample (pulses 2, beacon,
 -- buttons 2, mode)." Numbers are big-endian.
-use Prim.Native.Nat.{ℕ, _+_, _*_, _-_, _/_}
+use Prim.Native.Nat.{ℕ, zero, suc, _+_, _*_, _-_, _/_, _≤_}
+use mathlib.Core.Path.{_≡_}
 use mathlib.Core.Bool.{Bool, _&&_}
-use mathlib.Core.List.{List}
+use mathlib.Core.List.{List, [], _∷_, _++_}
 use lib.Dec.{leb, eqb}
 use lib.ListN.{length}
 use Rattle.leaf.specs.Bytes.{byte, word, long}
@@ -21,6 +22,13 @@ unfoldable pub goodRecording : List ℕ → Bool
 goodRecording recording =
     eqb (long recording 0) (length recording) && eqb (6 + 6 * samplesIn recording) (length recording)
     && leb (samplesIn recording) mostSamples && eqb (byte recording 4) 1
+
+-- the same in plain facts, of a recording of n samples
+pub record RecordingMet (recording : List ℕ) (n : ℕ) : Type 0 where
+  pub stated : long recording 0 ≡ length recording
+  pub whole : length recording ≡ 6 + 6 * n
+  pub few : n ≤ mostSamples
+  pub version : byte recording 4 ≡ 1
 
 -- the train type
 abbrev pub trainOf : List ℕ → ℕ
@@ -41,3 +49,12 @@ sampleAt recording k =
       buttons = word recording (placeOf k + 3);
       mode = byte recording (placeOf k + 5);
     }
+
+-- the first k samples, in order
+unfoldable pub firstSamples : List ℕ → ℕ → List Sample
+firstSamples recording zero = []
+firstSamples recording (suc k) = firstSamples recording k ++ sampleAt recording k ∷ []
+
+-- all of them
+abbrev pub samplesOf : List ℕ → List Sample
+samplesOf recording = firstSamples recording (samplesIn recording)

@@ -1,19 +1,21 @@
 -- A ride: a session and its samples one after the other, until one is refused. Defined by the number of samples run, forward.
 use Prim.Native.Nat.{ℕ, zero, suc}
-use mathlib.Core.List.{List}
+use mathlib.Core.List.{List, [], _∷_, _++_}
 use lib.Dec.{eqb}
 use Rattle.leaf.specs.Choosing.{pick}
-use Rattle.leaf.specs.Answers.{Answer, refused}
+use Rattle.leaf.specs.Answers.{Answer, given, refused, refusedAt}
 use Rattle.leaf.specs.declared.Refusal.{Refusal}
 use Rattle.leaf.specs.declared.Refusal.the-variants.{Number, At}
 use Rattle.card.specs.declared.Settings.{Settings}
+use Rattle.step.specs.declared.Answer.{Answer as Told}
 use Rattle.session.specs.declared.Sample.{Sample}
 use Rattle.session.specs.declared.Session.{Session}
 use Rattle.session.specs.declared.Outcome.{Outcome}
 use Rattle.session.specs.declared.Outcome.the-variants as outcome
-use Rattle.session.specs.Session.{openSession, sampleOf}
-use Rattle.rides.specs.Recording.{goodRecording, trainOf, sampleAt}
+use Rattle.session.specs.Session.{openSession, sampleOf, answerTo}
+use Rattle.rides.specs.Recording.{goodRecording, trainOf, sampleAt, samplesOf}
 use Rattle.rides.specs.declared.ride.Ride.{Ride}
+use Rattle.rides.specs.declared.ride.Shown.{Shown}
 use Rattle.rides.specs.declared.ride.Shown.the-variants as shown
 use Rattle.rides.specs.declared.ride.Turned.{Turned}
 
@@ -43,6 +45,16 @@ turnOf r x =
     pick (eqb (r .ended) 0) (toldOf (sampleOf (r .session) x .session) (sampleOf (r .session) x .outcome))
     (record { ride = r; shown = shown.Nothing })
 
+-- what each case of what a turn shows is on paper: an answer, a refusal's number, or nothing
+abbrev pub shownOf : Shown → List (Answer Told)
+shownOf (shown.Answered a) = given a ∷ []
+shownOf (shown.Refused n) = refused n ∷ []
+shownOf shown.Nothing = []
+
+-- what a turn shows, on paper: what the sample is answered with, while the ride has not ended
+unfoldable pub turnShows : Ride → Sample → List (Answer Told)
+turnShows r x = pick (eqb (r .ended) 0) (answerTo (r .session) x ∷ []) []
+
 -- the turn of the sample that k samples of the recording stand before
 unfoldable pub turnAt : Ride → List ℕ → ℕ → Turned
 turnAt r recording k = turnOf r (sampleAt recording k)
@@ -51,3 +63,33 @@ turnAt r recording k = turnOf r (sampleAt recording k)
 unfoldable pub rideAfter : Ride → List ℕ → ℕ → Ride
 rideAfter r recording zero = r
 rideAfter r recording (suc k) = turnAt (rideAfter r recording k) recording k .ride
+
+-- ---- the same over a list of samples
+
+-- the ride after them
+unfoldable pub runOf : Ride → List Sample → Ride
+runOf r [] = r
+runOf r (x ∷ xs) = runOf (turnOf r x .ride) xs
+
+-- what it shows of them, in order: an answer a sample, and the number of the first that is refused; nothing more
+unfoldable pub shownBy : Ride → List Sample → List (Answer Told)
+shownBy r [] = []
+shownBy r (x ∷ xs) = turnShows r x ++ shownBy (turnOf r x .ride) xs
+
+-- answers up to the first refusal, which is the last
+unfoldable pub untilRefused : List (Answer Told) → List (Answer Told)
+untilRefused [] = []
+untilRefused (given a ∷ rest) = given a ∷ untilRefused rest
+untilRefused (refused n ∷ rest) = refused n ∷ []
+untilRefused (refusedAt n place ∷ rest) = refusedAt n place ∷ []
+
+-- ---- a whole ride: "a ride 14, 7, its samples"
+
+-- a session that was opened, or not, shows what it shows of the samples
+abbrev pub shownFrom : Answer Session → List Sample → Answer (List (Answer Told))
+shownFrom (given s) xs = given (shownBy (freshRide s) xs)
+shownFrom (refused n) xs = refused n
+shownFrom (refusedAt n place) xs = refusedAt n place
+
+unfoldable pub wholeRide : Settings → List ℕ → Answer (List (Answer Told))
+wholeRide settings recording = shownFrom (startRide settings recording) (samplesOf recording)

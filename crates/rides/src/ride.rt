@@ -11,7 +11,8 @@ use session::Session;
 use step::Answer;
 ghost use mathlib.Core.Path.{_≡_};
 ghost use Rattle.session.specs.Session.{openedOf};
-ghost use Rattle.rides.specs.Ride.{startRide, freshRide, numberOf, toldOf, turnOf, turnAt};
+ghost use Rattle.rides.specs.Recording.{sampleAt};
+ghost use Rattle.rides.specs.Ride.{startRide, freshRide, numberOf, toldOf, turnOf, turnAt, shownOf, turnShows};
 
 // The session after the samples run, and the number of the refusal that ended the ride, 0 while none has.
 pub struct Ride {
@@ -91,6 +92,7 @@ impl Ride {
     // One more sample. A ride that has ended stays as it is.
     pub fn turn(self, x: Sample) -> Turned
         ensures { λ r. ⌜ r ≡ turnOf self x ⌝ }
+        ensures { λ r. ⌜ shownOf (r .shown) ≡ turnShows self x ⌝ }
     {
         let going = self.ended == 0;
         if going {
@@ -109,6 +111,7 @@ impl Ride {
     // The turn of the recording's sample that k samples stand before. Past its end a byte reads as 0.
     pub fn turn_at(self, recording: &[u8], k: u16) -> Turned
         ensures { λ r. ⌜ r ≡ turnAt self (now (recording .entry)) k ⌝ }
+        ensures { λ r. ⌜ shownOf (r .shown) ≡ turnShows self (sampleAt (now (recording .entry)) k) ⌝ }
     {
         self.turn(sample_at(recording, k))
     }

@@ -1,3 +1,3 @@
 pub mod Types
-pub mod Ranges
 pub mod Session
+pub mod Runs

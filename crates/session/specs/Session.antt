@@ -4,7 +4,7 @@ use mathlib.Core.Bool.{Bool, true, false, _&&_, _||_}
 use mathlib.Core.List.{List, [], _∷_}
 use lib.Dec.{leb, eqb}
 use Rattle.leaf.specs.Choosing.{pick}
-use Rattle.leaf.specs.Numbers.{within}
+use Rattle.leaf.specs.Numbers.{codeTop, buttonsTop}
 use Rattle.leaf.specs.Checks.{Check, firstBad}
 use Rattle.leaf.specs.Answers.{Answer, given, refused, refusedAt, isGiven, refusalOf}
 use Rattle.leaf.specs.declared.Refusal.the-variants.{Number}
@@ -12,15 +12,17 @@ use Rattle.card.specs.declared.Settings.{Settings}
 use Rattle.card.specs.Ranges.{checkSettings}
 use Rattle.desk.specs.State.{freshDesk}
 use Rattle.desk.specs.Clock.{sameMode}
+use Rattle.desk.specs.Ranges.{deskInside}
 use Rattle.step.specs.declared.Input.{Input}
+use Rattle.step.specs.declared.Answer.{Answer as Told}
 use Rattle.step.specs.declared.Stepped.{Stepped}
 use Rattle.step.specs.Step.{stepOf}
 use Rattle.session.specs.Types.{typeSpeed, typeAllowed}
-use Rattle.session.specs.Ranges.{deskInside}
 use Rattle.session.specs.declared.Sample.{Sample}
 use Rattle.session.specs.declared.Session.{Session}
 use Rattle.session.specs.declared.Opened.{Opened}
 use Rattle.session.specs.declared.Opened.the-variants as opened
+use Rattle.session.specs.declared.Outcome.{Outcome}
 use Rattle.session.specs.declared.Outcome.the-variants as outcome
 use Rattle.session.specs.declared.Sampled.{Sampled}
 
@@ -35,20 +37,24 @@ abbrev pub openedOf : Opened → Answer Session
 openedOf (opened.Ready s) = given s
 openedOf (opened.Refused r) = refusalOf r
 
--- the settings judged, then the train type; "opening takes no version": they are judged as beside version 2
+-- "opening takes no version": settings are judged as beside version 2
+abbrev pub openingVersion : ℕ
+openingVersion = 2
+
+-- the settings judged, then the train type
 abbrev pub openedAfter : Answer Unit → Settings → ℕ → Answer Session
 openedAfter (given u) settings train = pick (typeAllowed train (settings .vmax)) (given (freshSession settings train)) (refused 7)
 openedAfter (refused n) settings train = refused n
 openedAfter (refusedAt n place) settings train = refusedAt n place
 
 unfoldable pub openSession : Settings → ℕ → Answer Session
-openSession settings train = openedAfter (checkSettings 2 settings) settings train
+openSession settings train = openedAfter (checkSettings openingVersion settings) settings train
 
--- ---- the ranges: "mode, cause, code and settings in range, and a train type that 7 allows"
+-- ---- the ranges: those of the desk, "and settings in range, and a train type that 7 allows"
 
 -- settings are judged as opening judges them
 unfoldable pub settingsInside : Settings → Bool
-settingsInside settings = isGiven (checkSettings 2 settings)
+settingsInside settings = isGiven (checkSettings openingVersion settings)
 
 unfoldable pub insideOf : Session → Bool
 insideOf s = settingsInside (s .settings) && typeAllowed (s .train) (s .settings .vmax) && deskInside (s .desk)
@@ -68,7 +74,7 @@ inBts mode = eqb mode 2
 abbrev pub sampleChecks : Session → Sample → List Check
 sampleChecks s x =
     (8, insideOf s)
-    ∷ (9, leb (x .beacon) 11 && leb (x .buttons) 2047 && leb 1 (x .mode) && leb (x .mode) 2)
+    ∷ (9, leb (x .beacon) codeTop && leb (x .buttons) buttonsTop && leb 1 (x .mode) && leb (x .mode) 2)
     ∷ (10, leb (x .pulses * s .settings .tick) 100000)
     ∷ (11, sameMode (s .desk .bts) (inBts (x .mode)) || standstill (x .pulses))
     ∷ []
@@ -93,10 +99,25 @@ abbrev pub sampledAs : Session → Stepped → Sampled
 sampledAs s e =
     record { session = record { settings = s .settings; train = s .train; desk = e .desk }; outcome = outcome.Answered (e .answer) }
 
+-- the step of the session's desk, T being that of its train type
+abbrev pub stepped : Session → Input → Stepped
+stepped s x = stepOf (s .settings) (typeSpeed (s .train) * 100) x (s .desk)
+
 unfoldable pub ranOf : Input → Session → Sampled
-ranOf x s = sampledAs s (stepOf (s .settings) (typeSpeed (s .train) * 100) x (s .desk))
+ranOf x s = sampledAs s (stepped s x)
 
 -- "A refusal returns its number .. and leaves .. the handed-in session unchanged."
 unfoldable pub sampleOf : Session → Sample → Sampled
 sampleOf s x =
     pick (eqb (refusedBy s x) 0) (ranOf (carried s x) s) (record { session = s; outcome = outcome.Refused (Number (refusedBy s x)) })
+
+-- ---- the same on paper
+
+-- what each case of a sample's outcome is on paper
+abbrev pub outcomeOf : Outcome → Answer Told
+outcomeOf (outcome.Answered a) = given a
+outcomeOf (outcome.Refused why) = refusalOf why
+
+-- what a sample is answered with: the answer of its step, or the number of its refusal
+unfoldable pub answerTo : Session → Sample → Answer Told
+answerTo s x = pick (eqb (refusedBy s x) 0) (given (stepped s (carried s x) .answer)) (refused (refusedBy s x))

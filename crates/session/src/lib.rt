@@ -2,23 +2,26 @@
 //
 // No function has a `requires`. A session, or a sample, that document 01 refuses is refused by its number, and the session
 // handed in comes back unchanged.
-mod ranges;
-
 use card::Checked;
 use card::Settings;
 use card::check;
 use card::is_in_range;
+use desk::ranges::desk_inside;
 use desk::state::Desk;
+use leaf::BUTTONS_TOP;
+use leaf::CODE_TOP;
 use leaf::Refusal;
 use leaf::or_fault;
-use ranges::desk_inside;
 use step::Answer;
 use step::Input;
 use step::step;
 ghost use mathlib.Core.Path.{_≡_};
 ghost use Prim.Native.Nat.{_*_};
 ghost use Rattle.session.specs.Types.{typeSpeed, typeAllowed};
-ghost use Rattle.session.specs.Session.{freshSession, openedOf, openSession, insideOf, standstill, refusedBy, ranOf, sampleOf};
+ghost use Rattle.session.specs.Session.{freshSession, openedOf, openSession, insideOf, standstill, refusedBy, ranOf, sampleOf, outcomeOf, answerTo};
+
+// Opening takes no version: settings are judged as beside this one.
+const OPENING_VERSION: u8 = 2;
 
 // What comes every 100 ms: odometer pulses, the beacon's code, the buttons newly pressed, the mode.
 pub struct Sample {
@@ -99,7 +102,7 @@ impl Session {
     pub fn open(settings: Settings, train: u8) -> Opened
         ensures { λ r. ⌜ openedOf r ≡ openSession settings train ⌝ }
     {
-        let checked = check(2, settings);
+        let checked = check(OPENING_VERSION, settings);
         let allowed = type_allowed(train, settings.vmax);
         match checked {
             Checked::FaultAt(place) => Opened::Refused(Refusal::At(5, place)),
@@ -119,7 +122,9 @@ impl Session {
     {
         let settings = self.settings;
         let desk = self.desk;
-        is_in_range(2, settings) & type_allowed(self.train, settings.vmax) & desk_inside(desk)
+        is_in_range(OPENING_VERSION, settings)
+            & type_allowed(self.train, settings.vmax)
+            & desk_inside(desk)
     }
 
     // The number that refuses the sample, 0 where it is accepted.
@@ -132,7 +137,10 @@ impl Session {
         let m = leaf::travel(x.pulses, settings.tick);
         let bts = x.mode == 2;
         let same = (desk.bts & bts) | (!desk.bts & !bts);
-        let fields = (x.beacon <= 11) & (x.buttons <= 2047) & (1 <= x.mode) & (x.mode <= 2);
+        let fields = (x.beacon <= CODE_TOP)
+            & (x.buttons <= BUTTONS_TOP)
+            & (1 <= x.mode)
+            & (x.mode <= 2);
         let n = or_fault(0, 8, inside);
         let n = or_fault(n, 9, fields);
         let n = or_fault(n, 10, m <= 100000);
@@ -162,6 +170,7 @@ impl Session {
     // One sample every 100 ms: pulses, beacon 0..11, buttons newly pressed, mode 1 CONV or 2 BTS.
     pub fn sample(self, x: Sample) -> Sampled
         ensures { λ r. ⌜ r ≡ sampleOf self x ⌝ }
+        ensures { λ r. ⌜ outcomeOf (r .outcome) ≡ answerTo self x ⌝ }
     {
         let settings = self.settings;
         let number = self.refusal(x);

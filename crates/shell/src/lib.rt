@@ -102,7 +102,7 @@ fn settings(s: Settings) {
     number(s.vmax as u64);
     next(s.tick);
     next(s.bts as u16);
-    row(s.clear);
+    row(s.conditional_clear);
     row(s.announcement);
     row(s.preannouncement);
     row(s.caution);

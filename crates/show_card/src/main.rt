@@ -86,7 +86,7 @@ fn show_row(row: u8, r: Row) {
 }
 
 fn show_rows(s: Settings) {
-    show_row(0, s.clear);
+    show_row(0, s.conditional_clear);
     show_row(1, s.announcement);
     show_row(2, s.preannouncement);
     show_row(3, s.caution);

@@ -33,9 +33,12 @@ limitSpeed row last top l = pick (ltb (last * 100) row) row (steppedFinal last (
 unfoldable pub mayStep : ℕ → ℕ → ℕ → Limit → Bool
 mayStep row last top l = l .on && leb row (last * 100) && ltb (steppedFinal last (l .steps) top) (highest top)
 
--- steps are 0..8
+-- "steps 0..8"
+abbrev pub stepsTop : ℕ
+stepsTop = 8
+
 abbrev pub stepped : Limit → Limit
-stepped l = record { on = l .on; age = l .age; steps = min (l .steps + 1) 8 }
+stepped l = record { on = l .on; age = l .age; steps = min (l .steps + 1) stepsTop }
 
 -- "hide takes one off."
 abbrev pub hidden : Limit → Limit

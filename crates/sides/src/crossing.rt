@@ -2,6 +2,12 @@
 ghost use mathlib.Core.Path.{_≡_};
 ghost use Rattle.sides.specs.Crossing.{noCrossing, stands, isProtected, isUnprotected, crossingOlder, unprotectedSet, protectedSet, turnsAt, turnedAt, crossingSpeed, iconOf, noOption, optionNow, optionOlder};
 
+// A crossing ends at 1,800 m.
+const CROSSING_END: u32 = 18000000;
+
+// The icon of a protected crossing shows 35 m after beacon 4.
+const ICON_DISTANCE: u32 = 350000;
+
 pub enum CrossingKind {
     Absent,
     Protected,
@@ -75,7 +81,7 @@ impl Crossing {
         let kind = self.kind;
         let age = leaf::older(self.age);
         let distance = leaf::further(self.distance, m);
-        let over = 18000000 <= distance;
+        let over = CROSSING_END <= distance;
         if over {
             return Crossing::none();
         }
@@ -83,7 +89,7 @@ impl Crossing {
             kind: kind,
             age: age,
             distance: distance,
-            shown: self.shown | (350000 <= distance),
+            shown: self.shown | (ICON_DISTANCE <= distance),
         }
     }
 

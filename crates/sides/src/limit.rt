@@ -1,7 +1,10 @@
 // The limit: row 6, with steps of 20 km/h.
 ghost use mathlib.Core.Path.{_≡_};
 ghost use Prim.Native.Nat.{_-_, _+_, _*_, min};
-ghost use Rattle.sides.specs.Limit.{noLimit, limitOlder, limitSet, highest, steppedFinal, limitSpeed, mayStep, stepped, hidden, removable};
+ghost use Rattle.sides.specs.Limit.{noLimit, limitOlder, limitSet, stepsTop, highest, steppedFinal, limitSpeed, mayStep, stepped, hidden, removable};
+
+// Steps stop here.
+pub const STEPS_TOP: u8 = 8;
 
 pub struct Limit {
     pub on: bool,
@@ -26,9 +29,13 @@ fn stepped_final(last: u8, steps: u8, top: u32) -> u32
 }
 
 fn one_more(steps: u8) -> u8
-    ensures { λ r. ⌜ r ≡ min (steps + 1) 8 ⌝ }
+    ensures { λ r. ⌜ r ≡ min (steps + 1) stepsTop ⌝ }
 {
-    if steps < 8 { steps + 1 } else { 8 }
+    if steps < STEPS_TOP {
+        steps + 1
+    } else {
+        STEPS_TOP
+    }
 }
 
 fn one_less(steps: u8) -> u8

@@ -1,10 +1,11 @@
 -- Document 01, "Controls": the windows, main (1, 2, 5, 6, 7) and side (9, 10, 11).
--- Buttons are a mask: bit k, of weight 2 to the k, is button k.
+-- The buttons that a window waits for are a mask, the sum of their weights.
 use Prim.Native.Nat.{ℕ, _+_, _-_}
 use mathlib.Core.Bool.{Bool, true, false, _&&_}
 use lib.Dec.{leb, eqb}
 use Rattle.leaf.specs.Choosing.{pick}
 use Rattle.leaf.specs.Numbers.{agedOf, furtherOf, bitOf}
+use Rattle.leaf.specs.Buttons.{announcementButton, preannouncementButton, cautionButton, conditionalClearButton, beforeStopButton, crossingButton, limitButton}
 use Rattle.signals.specs.declared.window.Waits.{Waits}
 use Rattle.signals.specs.declared.window.Waits.the-variants.{Nothing, One, Two, Five, Six, Seven, Zone, Nine, Limit}
 use Rattle.signals.specs.declared.window.Window.{Window}
@@ -43,14 +44,14 @@ isOpen Limit = true
 -- .. wait for 6. 2, 5, 6, 7 wait for 3, 1, 2, 4." The stop zone waits for 4 "from age 10".
 abbrev pub waitsFor : Waits → ℕ → ℕ
 waitsFor Nothing age = 0
-waitsFor One age = 103
-waitsFor Two age = 8
-waitsFor Five age = 2
-waitsFor Six age = 4
-waitsFor Seven age = 16
-waitsFor Zone age = pick (leb zonePress age) 16 0
-waitsFor Nine age = 96
-waitsFor Limit age = 64
+waitsFor One age = announcementButton + preannouncementButton + cautionButton + crossingButton + limitButton
+waitsFor Two age = conditionalClearButton
+waitsFor Five age = preannouncementButton
+waitsFor Six age = cautionButton
+waitsFor Seven age = beforeStopButton
+waitsFor Zone age = pick (leb zonePress age) beforeStopButton 0
+waitsFor Nine age = crossingButton + limitButton
+waitsFor Limit age = limitButton
 
 -- a right press: the window waits for that button now
 unfoldable pub answersOf : Window → ℕ → Bool

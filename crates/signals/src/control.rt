@@ -2,6 +2,9 @@
 ghost use mathlib.Core.Path.{_≡_};
 ghost use Rattle.signals.specs.MainControl.{mainOf, mainOlder, isStop, isBeforeStop, limitsOf, nearOf, mayIncrease, increaseLit, increased};
 
+// The stop zone is for under 80 m.
+const ZONE_DISTANCE: u32 = 800000;
+
 // `Clear` is no main limit: after beacon 3, and in BTS.
 pub enum MainKind {
     Clear,
@@ -104,7 +107,7 @@ impl Main {
     pub fn near(self) -> bool
         ensures { λ r. ⌜ r ≡ nearOf self ⌝ }
     {
-        self.is_before_stop() & (self.distance < 800000)
+        self.is_before_stop() & (self.distance < ZONE_DISTANCE)
     }
 
     // Has stop use for increase.

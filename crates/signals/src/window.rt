@@ -1,7 +1,17 @@
 // A window: what a beacon's reading waits for, how long still, and the age and distance of that reading.
+use leaf::button;
 ghost use mathlib.Core.Path.{_≡_};
 ghost use Prim.Native.Nat.{_-_};
 ghost use Rattle.signals.specs.Windows.{closed, opened, isOpen, windowOlder, missedOf, waitsFor, answersOf, timeLeft, asksOf};
+
+// The time to the miss of a fresh window.
+pub const MISS_TIME: u16 = 30;
+
+// The stop zone's window has a longer one.
+pub const ZONE_MISS: u16 = 40;
+
+// It is lit, and can be pressed, from this age.
+const ZONE_PRESS: u16 = 10;
 
 // Which reading waits. `Zone` is the window of the stop zone, `Limit` that of beacons 10 and 11.
 pub enum Waits {
@@ -98,14 +108,20 @@ impl Window {
         let waits = self.waits;
         match waits {
             Waits::Nothing => 0,
-            Waits::One => 103,
-            Waits::Two => 8,
-            Waits::Five => 2,
-            Waits::Six => 4,
-            Waits::Seven => 16,
-            Waits::Zone => leaf::choose16(10 <= self.age, 16, 0),
-            Waits::Nine => 96,
-            Waits::Limit => 64,
+            Waits::One => {
+                button::ANNOUNCEMENT
+                    | button::PREANNOUNCEMENT
+                    | button::CAUTION
+                    | button::CROSSING
+                    | button::LIMIT
+            }
+            Waits::Two => button::CONDITIONAL_CLEAR,
+            Waits::Five => button::PREANNOUNCEMENT,
+            Waits::Six => button::CAUTION,
+            Waits::Seven => button::BEFORE_STOP,
+            Waits::Zone => leaf::choose16(ZONE_PRESS <= self.age, button::BEFORE_STOP, 0),
+            Waits::Nine => button::CROSSING | button::LIMIT,
+            Waits::Limit => button::LIMIT,
         }
     }
 

@@ -4,6 +4,7 @@ use mathlib.Core.Bool.{Bool, true, false, _&&_, _||_, not}
 use lib.Dec.{eqb}
 use lib.Bits.{bitOr}
 use Rattle.leaf.specs.Choosing.{pick}
+use Rattle.leaf.specs.Buttons.{crossingButton, limitButton, overrideButton, increaseButton, rearmButton}
 use Rattle.signals.specs.Windows.{waitsFor}
 use Rattle.signals.specs.MainControl.{increaseLit}
 use Rattle.signals.specs.Stop.{isLit}
@@ -20,7 +21,7 @@ unfoldable pub standingCause : ℕ → ℕ → Bool → ℕ
 standingCause before arose rearm = pick (eqb arose 0) (pick rearm 0 before) (pick (eqb before 0) arose before)
 
 unfoldable pub braked : ℕ → Bool → Desk → Desk
-braked arose rearm d = withCause (standingCause (d .cause) arose rearm) d
+braked arose rearm d = withCause (standingCause (d .brake .cause) arose rearm) d
 
 -- "Lamps, bits as buttons:"
 abbrev pub lampIf : Bool → ℕ → ℕ
@@ -30,14 +31,14 @@ lampIf lit weight = pick lit weight 0
 unfoldable pub windowLamps : Desk → ℕ
 windowLamps d =
     bitOr (waitsFor (d .window .waits) (d .window .age))
-    (bitOr (waitsFor (d .side .waits) (d .side .age)) (lampIf (d .option .on) 32))
+    (bitOr (waitsFor (d .side .waits) (d .side .age)) (lampIf (d .option .on) crossingButton))
 
 -- "override armed or reminded, increase for stop (ages 0..99, till used), .., 10 when braked at standstill."
 unfoldable pub controlLamps : Bool → Desk → ℕ
 controlLamps still d =
-    bitOr (lampIf (d .armed .armed || isLit (d .reminder .phase)) 128)
-    (bitOr (lampIf (increaseLit (d .main)) 256) (lampIf (still && not (eqb (d .cause) 0)) 1024))
+    bitOr (lampIf (d .armed .armed || isLit (d .reminder .phase)) overrideButton)
+    (bitOr (lampIf (increaseLit (d .main)) increaseButton) (lampIf (still && not (eqb (d .brake .cause) 0)) rearmButton))
 
 -- "6 when limit is removable"
 unfoldable pub lampsOf : Bool → Bool → Desk → ℕ
-lampsOf removable still d = bitOr (windowLamps d) (bitOr (lampIf removable 64) (controlLamps still d))
+lampsOf removable still d = bitOr (windowLamps d) (bitOr (lampIf removable limitButton) (controlLamps still d))

@@ -4,7 +4,9 @@ use Prim.Native.Nat.{ℕ, _+_}
 use mathlib.Core.Bool.{Bool, true, false, _&&_}
 use Rattle.leaf.specs.Choosing.{pick}
 use Rattle.leaf.specs.Numbers.{bitOf, exceedsOf}
+use Rattle.leaf.specs.Buttons.{rearmButton}
 use Rattle.card.specs.declared.Settings.{Settings}
+use Rattle.card.specs.Card.{protects, zones, reminds, readsInBts}
 use Rattle.sides.specs.Crossing.{iconOf}
 use Rattle.sides.specs.Limit.{removable}
 use Rattle.desk.specs.declared.state.Desk.{Desk}
@@ -18,16 +20,12 @@ use Rattle.beacons.specs.Beacons.{beaconTaken}
 use Rattle.step.specs.Speed.{crossingTurned, supervisedOf}
 use Rattle.step.specs.Brake.{lowest, braked, lampsOf}
 
--- "Functions ..: bit 0 protected crossing, 1 stop zone, 2 reminder, 3 BTS reads beacons 4, 9, 10, 11."
-abbrev pub functionOn : Settings → ℕ → Bool
-functionOn s weight = bitOf (s .functions) weight
-
 -- mode, ages and misses, buttons, beacon
 unfoldable pub movedOf : Settings → ℕ → Input → Desk → Turn
 movedOf s top x d =
-    let first : Turn = begun (x .bts) (x .m) (functionOn s 4) (s .x) (s .y) d in
+    let first : Turn = begun (x .bts) (x .m) (reminds (s .functions)) (s .x) (s .y) d in
     let pressed : Desk = pressesOf (x .buttons) (x .m) (s .limit) top (first .desk) in
-    let read : Turn = beaconTaken (x .beacon) (functionOn s 1) (functionOn s 2) (functionOn s 8) pressed in
+    let read : Turn = beaconTaken (x .beacon) (protects (s .functions)) (zones (s .functions)) (readsInBts (s .functions)) pressed in
     record { desk = read .desk; cause = lowest (first .cause) (read .cause) }
 
 -- "The answer is S, lamps, cause (0 none), crossing icon (0, 1 protected, 2 unprotected), limit standing or not."
@@ -35,10 +33,10 @@ unfoldable pub answerOf : Settings → ℕ → Input → ℕ → Desk → Answer
 answerOf s top x speed d =
     record {
       speed = speed;
-      lamps = lampsOf (removable (x .m) (s .limit .last) top (d .limit)) (x .still) d;
-      cause = d .cause;
-      icon = iconOf (d .crossing);
-      limit = d .limit .on;
+      lamps = lampsOf (removable (x .m) (s .limit .last) top (d .beside .limit)) (x .still) d;
+      cause = d .brake .cause;
+      icon = iconOf (d .beside .crossing);
+      limit = d .beside .limit .on;
     }
 
 -- "Over S + 500 is cause 5 (001 in BTS; house elsewhere)." Then the brake, and the answer as the desk is at the sample's end.
@@ -47,7 +45,7 @@ judgedOf s top x cause d =
     let turned : Desk = crossingTurned (x .m) d in
     let speed : ℕ = supervisedOf s top turned in
     let arose : ℕ = lowest cause (pick (exceedsOf (x .m) (speed + 500)) 5 0) in
-    let after : Desk = braked arose (x .still && bitOf (x .buttons) 1024) turned in
+    let after : Desk = braked arose (x .still && bitOf (x .buttons) rearmButton) turned in
     record { desk = after; arose = arose; answer = answerOf s top x speed after }
 
 unfoldable pub stepOf : Settings → ℕ → Input → Desk → Stepped

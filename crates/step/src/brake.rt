@@ -1,5 +1,6 @@
 // The last step of a sample: the brake; and the lamps.
 use desk::state::Desk;
+use leaf::button;
 ghost use mathlib.Core.Path.{_≡_};
 ghost use Rattle.step.specs.Brake.{lowest, standingCause, braked, lampIf, windowLamps, controlLamps, lampsOf};
 
@@ -29,7 +30,7 @@ fn lamp_if(lit: bool, weight: u16) -> u16
 pub fn put_brake(d: Desk, arose: u8, rearm: bool) -> Desk
     ensures { λ r. ⌜ r ≡ braked arose rearm d ⌝ }
 {
-    d.with_cause(standing_cause(d.cause, arose, rearm))
+    d.with_cause(standing_cause(d.brake.cause, arose, rearm))
 }
 
 // What the windows and beacon 3's option wait for.
@@ -41,7 +42,7 @@ fn window_lamps(d: Desk) -> u16
     let option = d.option;
     leaf::either(
         window.waits_for(),
-        leaf::either(side.waits_for(), lamp_if(option.on, 32)),
+        leaf::either(side.waits_for(), lamp_if(option.on, button::CROSSING)),
     )
 }
 
@@ -55,8 +56,11 @@ fn control_lamps(d: Desk, still: bool) -> u16
     let reminded = reminder.is_lit();
     let stop = main.increase_lit();
     leaf::either(
-        lamp_if(armed.armed | reminded, 128),
-        leaf::either(lamp_if(stop, 256), lamp_if(still & !(d.cause == 0), 1024)),
+        lamp_if(armed.armed | reminded, button::OVERRIDE),
+        leaf::either(
+            lamp_if(stop, button::INCREASE),
+            lamp_if(still & !(d.brake.cause == 0), button::REARM),
+        ),
     )
 }
 
@@ -66,6 +70,6 @@ pub fn lamps_of(d: Desk, removable: bool, still: bool) -> u16
 {
     leaf::either(
         window_lamps(d),
-        leaf::either(lamp_if(removable, 64), control_lamps(d, still)),
+        leaf::either(lamp_if(removable, button::LIMIT), control_lamps(d, still)),
     )
 }

@@ -12,6 +12,8 @@ use card::Settings;
 use desk::clock::Turn;
 use desk::clock::begin;
 use desk::state::Desk;
+use leaf::button;
+use leaf::has_bit;
 use speed::supervised;
 use speed::too_fast;
 use speed::turn_crossing;
@@ -47,9 +49,9 @@ pub struct Stepped {
 fn moved(d: Desk, settings: Settings, top: u32, x: Input) -> Turn
     ensures { λ r. ⌜ r ≡ movedOf settings top x d ⌝ }
 {
-    let f = settings.functions;
+    let functions = card::functions_of(settings.functions);
     let row = settings.limit;
-    let begun = begin(d, x.bts, x.m, f / 4 % 2 == 1, settings.x, settings.y);
+    let begun = begin(d, x.bts, x.m, functions.reminds, settings.x, settings.y);
     let aged = begun.desk;
     // no press, and the code of the sample before: there is nothing to take
     let quiet = (x.buttons == 0) & (x.beacon == aged.code);
@@ -60,9 +62,9 @@ fn moved(d: Desk, settings: Settings, top: u32, x: Input) -> Turn
     let read = take_beacon(
         pressed,
         x.beacon,
-        f / 1 % 2 == 1,
-        f / 2 % 2 == 1,
-        f / 8 % 2 == 1,
+        functions.protects,
+        functions.zones,
+        functions.reads_in_bts,
     );
     let after = read.desk;
     Turn {
@@ -74,14 +76,14 @@ fn moved(d: Desk, settings: Settings, top: u32, x: Input) -> Turn
 fn answer_at(d: Desk, settings: Settings, top: u32, x: Input, speed: u32) -> Answer
     ensures { λ r. ⌜ r ≡ answerOf settings top x speed d ⌝ }
 {
-    let crossing = d.crossing;
-    let limit = d.limit;
+    let crossing = d.beside.crossing;
+    let limit = d.beside.limit;
     let row = settings.limit;
     let removable = limit.is_removable(x.m, row.last, top);
     Answer {
         speed: speed,
         lamps: lamps_of(d, removable, x.still),
-        cause: d.cause,
+        cause: d.brake.cause,
         icon: crossing.icon(),
         limit: limit.on,
     }
@@ -95,7 +97,7 @@ fn judged(d: Desk, settings: Settings, top: u32, x: Input, cause: u8) -> Stepped
     let speed = supervised(turned, settings, top);
     let fast = leaf::choose8(too_fast(x.m, speed), 5, 0);
     let arose = lowest(cause, fast);
-    let rearm = x.still & (x.buttons / 1024 % 2 == 1);
+    let rearm = x.still & has_bit(x.buttons, button::REARM);
     let braked = put_brake(turned, arose, rearm);
     Stepped {
         desk: braked,

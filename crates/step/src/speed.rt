@@ -1,16 +1,66 @@
-// The fifth step of a sample: the supervised speed, the least of what stands.
+// The fifth step of a sample: the supervised speed, the least of the limits that stand.
+use card::Row;
 use card::Settings;
 use curve::row_speed;
+use desk::beside::Beside;
 use desk::state::Desk;
+use sides::crossing::Crossing;
+use sides::limit::Limit;
 use signals::control::Main;
 use signals::control::MainKind;
 use signals::stop::Alongside;
 use signals::stop::stop_speed;
 ghost use mathlib.Core.Path.{_≡_};
+ghost use mathlib.Core.Bool.{true};
 ghost use Prim.Native.Nat.{_+_};
 ghost use Rattle.leaf.specs.Numbers.{exceedsOf};
-ghost use Rattle.signals.specs.Stop.{stopSpeed};
-ghost use Rattle.step.specs.Speed.{mainSpeed, leastIf, signalsLeast, crossingLeast, limitLeast, supervisedOf, crossingTurned};
+ghost use Rattle.step.specs.Speed.{crossingTurned, mainSpeed, none, standing, lower, btsLimit, mainLimit, alongsideLimit, crossingLimit, limitLimit, leastOf, limitsBeside, supervisedOf};
+
+// A limit: does it stand, hundredths of km/h, and its age. One that does not stand has 0 for both.
+pub struct Standing {
+    pub stands: bool,
+    pub speed: u32,
+    pub age: u16,
+}
+
+impl Standing {
+    fn none() -> Standing
+        ensures { λ r. ⌜ r ≡ none ⌝ }
+    {
+        Standing {
+            stands: false,
+            speed: 0,
+            age: 0,
+        }
+    }
+
+    // A limit that stands.
+    fn at(speed: u32, age: u16) -> Standing
+        ensures { λ r. ⌜ r ≡ standing true speed age ⌝ }
+    {
+        Standing {
+            stands: true,
+            speed: speed,
+            age: age,
+        }
+    }
+
+    // The lower of two limits, of equal ones the first. One that does not stand does not count.
+    fn or_lower(self, next: Standing) -> Standing
+        ensures { λ r. ⌜ r ≡ lower self next ⌝ }
+    {
+        let lower = next.stands & (!self.stands | (next.speed < self.speed));
+        if lower { next } else { self }
+    }
+}
+
+// The protected crossing turns in the speed step.
+pub fn turn_crossing(d: Desk, m: u32) -> Desk
+    ensures { λ r. ⌜ r ≡ crossingTurned m d ⌝ }
+{
+    let crossing = d.beside.crossing;
+    d.with_crossing(crossing.turned(m))
+}
 
 // Hundredths of km/h that the main control allows. Clear allows T: it is no limit.
 fn main_speed(main: Main, settings: Settings, top: u32) -> u32
@@ -24,7 +74,7 @@ fn main_speed(main: Main, settings: Settings, top: u32) -> u32
             row_speed(row, main.age)
         }
         MainKind::ConditionalClear => {
-            let row = settings.clear;
+            let row = settings.conditional_clear;
             row_speed(row, main.age)
         }
         MainKind::Announcement => {
@@ -48,11 +98,89 @@ fn main_speed(main: Main, settings: Settings, top: u32) -> u32
     }
 }
 
-// The least so far, with one more limit where it stands.
-fn least_if(stands: bool, limit: u32, sofar: u32) -> u32
-    ensures { λ r. ⌜ r ≡ leastIf stands limit sofar ⌝ }
+// ---- the limits, each with no more work than it needs where it does not stand
+
+fn bts_limit(bts: bool, speed: u8) -> Standing
+    ensures { λ r. ⌜ r ≡ btsLimit bts speed ⌝ }
 {
-    leaf::choose32(stands, leaf::least(sofar, limit), sofar)
+    if bts {
+        return Standing::at(leaf::hundredths(speed), 0);
+    }
+    Standing::none()
+}
+
+fn main_limit(main: Main, settings: Settings, top: u32) -> Standing
+    ensures { λ r. ⌜ r ≡ mainLimit settings top main ⌝ }
+{
+    let stands = main.limits();
+    if stands {
+        return Standing::at(main_speed(main, settings, top), main.age);
+    }
+    Standing::none()
+}
+
+fn alongside_limit(alongside: Alongside, top: u32) -> Standing
+    ensures { λ r. ⌜ r ≡ alongsideLimit top alongside ⌝ }
+{
+    if alongside.on {
+        return Standing::at(stop_speed(alongside.increased, top), alongside.age);
+    }
+    Standing::none()
+}
+
+fn crossing_limit(crossing: Crossing, row: Row, top: u32) -> Standing
+    ensures { λ r. ⌜ r ≡ crossingLimit row top crossing ⌝ }
+{
+    let stands = crossing.is_standing();
+    if stands {
+        return Standing::at(
+            crossing.speed(row_speed(row, crossing.age), top),
+            crossing.age,
+        );
+    }
+    Standing::none()
+}
+
+fn limit_limit(limit: Limit, row: Row, top: u32) -> Standing
+    ensures { λ r. ⌜ r ≡ limitLimit row top limit ⌝ }
+{
+    if limit.on {
+        return Standing::at(
+            limit.speed(row_speed(row, limit.age), row.last, top),
+            limit.age,
+        );
+    }
+    Standing::none()
+}
+
+// The lowest so far, with what stands beside the main control.
+fn or_beside(lowest: Standing, beside: Beside, settings: Settings, top: u32) -> Standing
+    ensures { λ r. ⌜ r ≡ leastOf lowest (limitsBeside settings top beside) ⌝ }
+{
+    let alongside = beside.alongside;
+    let crossing = beside.crossing;
+    let limit = beside.limit;
+    let crossing_row = settings.crossing;
+    let limit_row = settings.limit;
+    lowest
+        .or_lower(alongside_limit(alongside, top))
+        .or_lower(crossing_limit(crossing, crossing_row, top))
+        .or_lower(limit_limit(limit, limit_row, top))
+}
+
+// S, hundredths of km/h.
+pub fn supervised(d: Desk, settings: Settings, top: u32) -> u32
+    ensures { λ r. ⌜ r ≡ supervisedOf settings top d ⌝ }
+{
+    let main = d.main;
+    let beside = d.beside;
+    let lowest = Standing::none()
+        .or_lower(Standing::at(leaf::hundredths(settings.vmax), 0))
+        .or_lower(Standing::at(top, 0))
+        .or_lower(bts_limit(d.bts, settings.bts))
+        .or_lower(main_limit(main, settings, top));
+    let least = or_beside(lowest, beside, settings, top);
+    least.speed
 }
 
 // Is a speed of m mm/s more than 5 km/h over s hundredths of km/h.
@@ -60,68 +188,4 @@ pub fn too_fast(m: u32, s: u32) -> bool
     ensures { λ r. ⌜ r ≡ exceedsOf m (s + 500) ⌝ }
 {
     25 * ((s as u64) + 500) < 9 * (m as u64)
-}
-
-// The protected crossing turns in the speed step.
-pub fn turn_crossing(d: Desk, m: u32) -> Desk
-    ensures { λ r. ⌜ r ≡ crossingTurned m d ⌝ }
-{
-    let crossing = d.crossing;
-    d.with_crossing(crossing.turned(m))
-}
-
-// The least so far, with the stop alongside where it stands.
-fn with_alongside(alongside: Alongside, top: u32, sofar: u32) -> u32
-    ensures { λ r. ⌜ r ≡ leastIf (alongside .on) (stopSpeed (alongside .increased) top) sofar ⌝ }
-{
-    if alongside.on {
-        return leaf::least(sofar, stop_speed(alongside.increased, top));
-    }
-    sofar
-}
-
-// The least of vmax, T, BTS speed in BTS, the main control and the stop alongside.
-fn signals_least(d: Desk, settings: Settings, top: u32) -> u32
-    ensures { λ r. ⌜ r ≡ signalsLeast settings top d ⌝ }
-{
-    let main = d.main;
-    let alongside = d.alongside;
-    let vehicle = leaf::least(leaf::hundredths(settings.vmax), top);
-    let in_mode = least_if(d.bts, leaf::hundredths(settings.bts), vehicle);
-    let with_main = least_if(main.limits(), main_speed(main, settings, top), in_mode);
-    with_alongside(alongside, top, with_main)
-}
-
-// The least so far, with the crossing where it stands.
-fn with_crossing(d: Desk, settings: Settings, top: u32, sofar: u32) -> u32
-    ensures { λ r. ⌜ r ≡ crossingLeast settings top d sofar ⌝ }
-{
-    let crossing = d.crossing;
-    let row = settings.crossing;
-    let standing = crossing.is_standing();
-    if standing {
-        return leaf::least(sofar, crossing.speed(row_speed(row, crossing.age), top));
-    }
-    sofar
-}
-
-// The least so far, with the limit where it stands.
-fn with_limit(d: Desk, settings: Settings, top: u32, sofar: u32) -> u32
-    ensures { λ r. ⌜ r ≡ limitLeast settings top d sofar ⌝ }
-{
-    let limit = d.limit;
-    let row = settings.limit;
-    if limit.on {
-        return leaf::least(sofar, limit.speed(row_speed(row, limit.age), row.last, top));
-    }
-    sofar
-}
-
-// S, hundredths of km/h.
-pub fn supervised(d: Desk, settings: Settings, top: u32) -> u32
-    ensures { λ r. ⌜ r ≡ supervisedOf settings top d ⌝ }
-{
-    let signals = signals_least(d, settings, top);
-    let sides = with_crossing(d, settings, top, signals);
-    with_limit(d, settings, top, sides)
 }

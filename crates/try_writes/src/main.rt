@@ -27,7 +27,7 @@ fn settings_of(case: &[u8]) -> Settings {
         vmax: byte_at(case, 1),
         tick: word_at(case, 2),
         bts: byte_at(case, 4),
-        clear: row_at(case, 5),
+        conditional_clear: row_at(case, 5),
         announcement: row_at(case, 9),
         preannouncement: row_at(case, 13),
         caution: row_at(case, 17),

@@ -5,7 +5,7 @@ use Rattle.buttons.specs.Buttons.{windowPresses}
 
 returns : tie.Need-returns
 unfolding windowPresses
-returns c = simp (c .press5 .ensures, c .before .press4 .ensures, c .before .before .press3 .ensures, c .before .before .before .press2 .ensures, c .before .before .before .before .press .ensures)
+returns c = simp (c .press-among5 .ensures, c .before .press-among4 .ensures, c .before .before .press-among3 .ensures, c .before .before .before .press-among2 .ensures, c .before .before .before .before .press-among .ensures)
 
 pub press-answers-spec : {M : Type 1} → statement M
 press-answers-spec =

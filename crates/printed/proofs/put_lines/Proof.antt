@@ -24,7 +24,7 @@ loop-again : tie.Need-loop-again Inv-loop μ-loop
 unfolding rideAfter linesOf
 loop-again c =
     let l = c .before .before .before .before .before .before .before .loop in
-    let turned = c .before .before .before .before .before .turn-at .ensures in (
+    let turned = c .before .before .before .before .before .turn-at .ensures .0 in (
       omega arith,
       omega arith,
       rw (add-one, turned, l .inv .2),

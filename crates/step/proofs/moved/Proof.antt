@@ -6,6 +6,7 @@ use lib.Dec.{eqb}
 use borrow.Author.Tests.{eqb-true}
 use Rattle.leaf.specs.Choosing.{pick, and-split}
 use Rattle.card.specs.declared.Settings.{Settings}
+use Rattle.card.specs.Card.{protects, zones, reminds, readsInBts}
 use Rattle.desk.specs.declared.state.Desk.{Desk}
 use Rattle.desk.specs.declared.clock.Turn.{Turn}
 use Rattle.desk.specs.State.{withCode}
@@ -15,7 +16,7 @@ use Rattle.beacons.specs.Beacons.{isBeacon, isSide, readsOf, readIf, beaconTake
 use Rattle.step.proofs.moved.Statement.{statement}
 use Rattle.step.proofs.moved.Tie as tie
 use Rattle.step.specs.Brake.{lowest}
-use Rattle.step.specs.Step.{functionOn, movedOf}
+use Rattle.step.specs.Step.{movedOf}
 use Rattle.step.specs.declared.Input.{Input}
 
 -- ---- no button, and the code of the sample before: the desk goes on as it is
@@ -40,21 +41,23 @@ lowest-alone cause = cases (eqb cause 0) refl
     cases true e = sym (eqb-true cause 0 e)
     cases false e = refl
 
-goes-on : (s : Settings) (top : ℕ) (x : Input) (d : Desk) (first : Turn) → first ≡ begun (x .bts) (x .m) (functionOn s 4) (s .x) (s .y) d
+goes-on : (s : Settings) (top : ℕ) (x : Input) (d : Desk) (first : Turn) → first ≡ begun (x .bts) (x .m) (reminds (s .functions)) (s .x) (s .y) d
     → (eqb (x .buttons) 0 && eqb (x .beacon) (first .desk .code)) ≡ true → first ≡ movedOf s top x d
 unfolding movedOf pressesOf
 goes-on s top x d first is h =
     let p = and-split (eqb (x .buttons) 0) (eqb (x .beacon) (first .desk .code)) h in
-    rw (← is, p .0, code-again (x .beacon) (functionOn s 1) (functionOn s 2) (functionOn s 8) (first .desk) (p .1), lowest-alone (first .cause))
+    rw (← is, p .0, code-again (x .beacon) (protects (s .functions)) (zones (s .functions)) (readsInBts (s .functions)) (first .desk) (p .1), lowest-alone (first .cause))
 
 returns : tie.Need-returns
-returns c = goes-on _ _ _ _ _ (c .before .before .before .before .before .begin .ensures) (c .if1 .taken)
+returns c =
+    let first = c .before .before .before .before .before in
+    goes-on _ _ _ _ _ (simp (first .before .before .functions-of .ensures) at (first .begin .ensures)) (c .if1 .taken)
 
 returns-2 : tie.Need-returns-2
 unfolding movedOf
-returns-2 c = simp (c .lowest .ensures, c .before .before .take-beacon .ensures, c .before .before .before .take-buttons .ensures, c .before .before .before .before .before .before .before .before .before .begin .ensures)
+returns-2 c = simp (c .lowest .ensures, c .before .before .take-beacon .ensures, c .before .before .before .take-buttons .ensures, c .before .before .before .before .before .before .before .before .before .begin .ensures, c .before .before .before .before .before .before .before .before .before .before .before .functions-of .ensures)
 
 pub moved-spec : {M : Type 1} → statement M
 moved-spec =
     tie.close
-    (tie.spec (λ c κs. search needs) returns (λ c κs. search needs) (λ c κs. search needs) (λ c κs. search needs) returns-2)
+    (tie.spec (λ c κs. search needs) (λ c κs. search needs) returns (λ c κs. search needs) (λ c κs. search needs) (λ c κs. search needs) returns-2)

@@ -1,13 +1,15 @@
 use borrow.Author.Needs.{needs}
 use Rattle.step.proofs.speed.supervised.Statement.{statement}
 use Rattle.step.proofs.speed.supervised.Tie as tie
-use Rattle.step.specs.Speed.{leastIf, signalsLeast, crossingLeast, limitLeast, supervisedOf}
+use Rattle.step.specs.Speed.{supervisedOf}
 
 returns : tie.Need-returns
-unfolding supervisedOf signalsLeast crossingLeast limitLeast leastIf
-returns c =
-    rw (c .with-limit .ensures, c .before .with-crossing .ensures, c .before .before .signals-least .ensures)
+unfolding supervisedOf
+returns c = simp (c .or-beside .ensures, c .before .or-lower4 .ensures, c .before .before .main-limit .ensures, c .before .before .before .or-lower3 .ensures, c .before .before .before .before .bts-limit .ensures, c .before .before .before .before .before .or-lower2 .ensures, c .before .before .before .before .before .before .at2 .ensures, c .before .before .before .before .before .before .before .or-lower .ensures, c .before .before .before .before .before .before .before .before .at .ensures, c .before .before .before .before .before .before .before .before .before .hundredths .ensures, c .before .before .before .before .before .before .before .before .before .before .none .ensures)
 
 pub supervised-spec : {M : Type 1} → statement M
 supervised-spec =
-    tie.close (tie.spec (λ c κs. search needs) (λ c κs. search needs) (λ c κs. search needs) returns)
+    tie.close
+    (tie.spec (λ c κs. search needs) (λ c κs. search needs) (λ c κs. search needs) (λ c κs. search needs)
+    (λ c κs. search needs) (λ c κs. search needs) (λ c κs. search needs) (λ c κs. search needs)
+    (λ c κs. search needs) (λ c κs. search needs) (λ c κs. search needs) returns)

@@ -5,7 +5,7 @@ use Rattle.desk.specs.State.{modeChanged}
 
 returns : tie.Need-returns
 unfolding modeChanged
-returns c = simp (c .with-main .ensures, c .before .resting .ensures, c .before .before .with-cause .ensures, c .before .before .before .with-code .ensures, c .before .before .before .before .with-bts .ensures, c .before .before .before .before .before .fresh .ensures)
+returns c = simp (c .with-main .ensures, c .before .resting .ensures, c .before .before .with-brake .ensures, c .before .before .before .with-code .ensures, c .before .before .before .before .with-bts .ensures, c .before .before .before .before .before .fresh .ensures)
 
 pub change-mode-spec : {M : Type 1} → statement M
 change-mode-spec =

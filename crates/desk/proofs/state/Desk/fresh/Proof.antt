@@ -3,11 +3,11 @@ use Rattle.desk.proofs.state.Desk.fresh.Statement.{statement}
 use Rattle.desk.proofs.state.Desk.fresh.Tie as tie
 
 returns : tie.Need-returns
-returns c = simp (c .none4 .ensures, c .before .none3 .ensures, c .before .before .none2 .ensures, c .before .before .before .fresh .ensures, c .before .before .before .before .disarmed .ensures, c .before .before .before .before .before .none .ensures, c .before .before .before .before .before .before .closed2 .ensures, c .before .before .before .before .before .before .before .closed .ensures, c .before .before .before .before .before .before .before .before .new .ensures)
+returns c = simp (c .nothing .ensures, c .before .none .ensures, c .before .before .fresh .ensures, c .before .before .before .disarmed .ensures, c .before .before .before .before .closed2 .ensures, c .before .before .before .before .before .closed .ensures, c .before .before .before .before .before .before .new .ensures, c .before .before .before .before .before .before .before .off .ensures)
 
 pub fresh-spec : {M : Type 1} → statement M
 fresh-spec =
     tie.close
     (tie.spec (λ c κs. search needs) (λ c κs. search needs) (λ c κs. search needs) (λ c κs. search needs)
     (λ c κs. search needs) (λ c κs. search needs) (λ c κs. search needs) (λ c κs. search needs)
-    (λ c κs. search needs) returns)
+    returns)

@@ -1,0 +1,289 @@
+-- What a sample does to an open window: unanswered, by the walk through the steps; shut, or the zone's, by the reading itself.
+use Prim.Native.Nat.{ℕ, suc, _+_, _-_, _^_, _≤_}
+use native.Mathlib.Omega.{arith}
+use native.Mathlib.Nat.{zero-div}
+use mathlib.Core.Path.{_≡_, refl, sym, ap, _∙_}
+use mathlib.Core.Bool.{Bool, true, false, _&&_, false≢true}
+use mathlib.Core.List.{List, [], _∷_}
+use mathlib.Core.Logic.{_⊎_, inl, inr, _↔_}
+use lib.Dec.{eqb}
+use lib.ListN.{length}
+use borrow.Author.Tests.{eqb-true, eq-eqb}
+use Rattle.leaf.specs.Choosing.{pick, and-split}
+use Rattle.leaf.specs.Numbers.{bitOf}
+use Rattle.card.specs.declared.Settings.{Settings}
+use Rattle.card.specs.Card.{protects, zones}
+use Rattle.signals.specs.declared.window.Waits.{Waits}
+use Rattle.signals.specs.declared.window.Waits.the-variants as waits
+use Rattle.signals.specs.declared.window.Window.{Window}
+use Rattle.signals.specs.declared.control.MainKind.the-variants.{Announcement}
+use Rattle.signals.specs.Windows.{missTime, zoneMiss, closed, opened, isOpen, asksOf, windowOlder, missedOf, answersOf, timeLeft}
+use Rattle.signals.specs.MainControl.{mainOlder, nearOf}
+use Rattle.desk.specs.declared.state.Desk.{Desk}
+use Rattle.desk.specs.State.{withCode, withWindow, withSide, takenOver, crossingSet, limitNow, modeChanged}
+use Rattle.desk.specs.Clock.{sameMode, deskOlder, reminded, mainCounts, mainMissed, sideMissed, advanced, begun}
+use Rattle.buttons.specs.Buttons.{optionUsed, limitRemoved, reminderAnswered, overrideArmed, stopIncreased, limitStepped, hidePressed, pressesOf}
+use Rattle.beacons.specs.Beacons.{mainOpened, sideOpened, optionOffered, reading3, reading4, zoneOr, zoneMet, reading7, stopped, reading8, readingOf, readIf, beaconTaken}
+use Rattle.step.specs.declared.Input.{Input}
+use Rattle.step.specs.Speed.{crossingTurned}
+use Rattle.step.specs.Brake.{braked}
+use Rattle.step.specs.Step.{movedOf, judgedOf, stepOf}
+use Rattle.step_laws.specs.Walk.{atBeacon, readsAt, Ends, missed, pressed, Sets, ToBeacon, OfBeacon}
+use Rattle.step_laws.specs.Unanswered.{Which, main, side, windowOf, TimeOver, Unanswered, reads, Shuts, Zones, WindowAfter, waitingDesk, beacon7, NoLending, stepsOf, AllUnanswered, ChainLaws}
+use Rattle.step_laws.proofs.Walk.{AnyReading, at-beacon, after-beacon}
+use Rattle.step_laws.proofs.Carried.{carried-laws}
+
+-- ---- the walk with a window at hand, which is one sample older and has not ended
+
+-- what the sample leaves of it
+data Left (s : Settings) (top : ℕ) (x : Input) (d : Desk) (which : Which) (before : ℕ) (w : Window) : Type 0 where
+  near : isOpen (w .waits) ≡ true → w .left + 1 ≡ before → Left s top x d which before w
+  shut : Shuts s x d which → Left s top x d which before w
+  zone : Zones s top x d which → Left s top x d which before w
+
+pub same-mode : (a b : Bool) → a ≡ b → sameMode a b ≡ true
+same-mode true b e = rw (← e)
+same-mode false b e = rw (← e)
+
+-- a beacon is read by the desk where it is looked at exactly as by the desk before
+reads-at : (s : Settings) (top : ℕ) (x : Input) (d : Desk) → readsAt s x (atBeacon s top x d) ≡ reads s x d
+reads-at s top x d = let c = carried-laws s top x d in rw (c .at-mode, c .at-code)
+
+-- the code that the desk keeps is no part of the stop-zone rule
+zone-code : (code : ℕ) (d : Desk) → zoneMet (withCode code d) ≡ zoneMet d
+unfolding zoneMet mainCounts takenOver
+zone-code code d = cases (asksOf (d .window .waits))
+  where
+    cases : (t : Bool)
+        → nearOf (pick t (takenOver Announcement (d .window .age) (d .window .distance) (withCode code d)) (withCode code d) .main)
+        ≡ nearOf (pick t (takenOver Announcement (d .window .age) (d .window .distance) d) d .main)
+    cases true = refl
+    cases false = refl
+
+module _ (s : Settings) (top : ℕ) (x : Input) (d : Desk) (old : Window) (before : ℕ)
+    (waits-on : isOpen (old .waits) ≡ true) (time : old .left + 1 ≡ before) (goes-on : Ends x old → ⊥) where
+  -- the window is that one
+  abbrev Is : Which → Desk → Type 0
+  Is which e = windowOf which e ≡ old
+
+  abbrev After : Which → Window → Type 0
+  After which w = Left s top x d which before w
+
+  it : (which : Which) (w : Window) → w ≡ old → After which w
+  it which w e = near (rw e waits-on) (rw e time)
+
+  -- a reading takes its place, with its time
+  displaced : (which : Which) (v : Waits) (w : Window) → isOpen v ≡ true → w ≡ old → After which (opened v (timeLeft w missTime))
+  unfolding timeLeft
+  displaced which v w o e = near o (rw (e, waits-on) time)
+
+  main-closed : (which : Which) (e next : Desk) → Ends x (e .window) → Is which e → Is which next → Is which (withWindow closed next)
+  main-closed main e next o h n = absurd (goes-on (rw h at o))
+  main-closed side e next o h n = n
+
+  side-closed : (which : Which) (e next : Desk) → Ends x (e .side) → Is which e → Is which next → Is which (withSide closed next)
+  side-closed main e next o h n = n
+  side-closed side e next o h n = absurd (goes-on (rw h at o))
+
+  main-opened : (which : Which) (w : Waits) (e : Desk) → isOpen w ≡ true → Is which e → After which (windowOf which (mainOpened w e))
+  unfolding mainOpened
+  main-opened main w e o h = displaced main w (e .window) o h
+  main-opened side w e o h = it side (e .side) h
+
+  side-opened : (which : Which) (w : Waits) (e : Desk) → isOpen w ≡ true → Is which e → After which (windowOf which (sideOpened w e))
+  unfolding sideOpened
+  side-opened main w e o h = it main (e .window) h
+  side-opened side w e o h = displaced side w (e .side) o h
+
+  zone-opened : (which : Which) (e : Desk) → readsAt s x (atBeacon s top x d) ≡ true → x .beacon ≡ 7
+      → (zoneMet (withCode (x .beacon) (atBeacon s top x d)) && zones (s .functions)) ≡ true → Is which e → After which (windowOf which (withWindow (opened waits.Zone zoneMiss) e))
+  zone-opened main e r c z h =
+      let q = and-split (zoneMet (withCode (x .beacon) (atBeacon s top x d))) (zones (s .functions)) z in
+      zone (record { is-main = refl; read = sym (reads-at s top x d) ∙ r; code = c; near = sym (zone-code (x .beacon) (atBeacon s top x d)) ∙ q .0; function = q .1 })
+  zone-opened side e r c z h = it side (e .side) h
+
+  -- a reading that leaves no main window
+  none-left : (which : Which) (e : Desk) (w : Window) → readsAt s x (atBeacon s top x d) ≡ true → (x .beacon ≡ 3) ⊎ (x .beacon ≡ 8) → Is which e
+      → After which (windowOf which (withWindow w e))
+  none-left main e w r c h = shut (record { is-main = refl; read = sym (reads-at s top x d) ∙ r; code = c })
+  none-left side e w r c h = it side (e .side) h
+
+  module _ (which : Which) (same : d .bts ≡ x .bts) (older : windowOf which (deskOlder (x .m) d) ≡ old) where
+    sets-it : Sets (Is which) AnyReading
+    unfolding takenOver crossingSet limitNow
+    sets-it =
+        record {
+          now = tt;
+          main-reading = λ e h. tt;
+          side-reading = λ e h. tt;
+          taken = λ kind age distance e r h. h;
+          crossing = λ age distance e r h. h;
+          limit = λ age distance e r h. h;
+        }
+
+    to-beacon-it : ToBeacon s top x d (Is which)
+    unfolding reminded optionUsed limitRemoved reminderAnswered overrideArmed stopIncreased limitStepped hidePressed
+    to-beacon-it =
+        record {
+          changed = λ e. absurd (false≢true (sym e ∙ same-mode (d .bts) (x .bts) same));
+          advanced = λ e. older;
+          main-closed = main-closed which;
+          side-closed = side-closed which;
+          option = λ e h. h;
+          removed = λ e h. h;
+          answered = λ e h. h;
+          armed = λ e h. h;
+          increased = λ e h. h;
+          stepped = λ e h. h;
+          hidden = λ e h. h;
+        }
+
+    of-beacon-it : OfBeacon s top x d (Is which) (λ (e : Desk). After which (windowOf which e))
+    unfolding stopped reading4 optionOffered
+    of-beacon-it =
+        record {
+          unread = λ e h. it which _ h;
+          main-opened = main-opened which;
+          side-opened = side-opened which;
+          zone-opened = zone-opened which;
+          shut = λ e r c h. none-left which e closed r (inl c) h;
+          stop = λ e r c h. none-left which e closed r (inr c) h;
+          protected = λ e h. it which _ h;
+          offered = λ e h. h;
+        }
+
+    moved-it : After which (windowOf which (movedOf s top x d .desk))
+    moved-it = after-beacon sets-it of-beacon-it (at-beacon sets-it to-beacon-it)
+
+-- ---- unanswered
+
+-- a window is missed exactly where its time is over
+pub missed-exactly : (m : ℕ) (w : Window) → (missedOf (windowOlder m w) ≡ true) ↔ ((isOpen (w .waits) ≡ true) × (w .left ≤ 1))
+unfolding missedOf windowOlder
+missed-exactly m w = (only, when)
+  where
+    only : (isOpen (w .waits) && eqb (w .left - 1) 0) ≡ true → (isOpen (w .waits) ≡ true) × (w .left ≤ 1)
+    only h = let q = and-split (isOpen (w .waits)) (eqb (w .left - 1) 0) h in let z = eqb-true (w .left - 1) 0 (q .1) in (q .0, omega arith)
+
+    when : (isOpen (w .waits) ≡ true) × (w .left ≤ 1) → (isOpen (w .waits) && eqb (w .left - 1) 0) ≡ true
+    when h = let low = h .1 in rw (h .0, eq-eqb (w .left - 1) 0 (omega arith))
+
+older-of : (m : ℕ) (which : Which) (d : Desk) → windowOf which (deskOlder m d) ≡ windowOlder m (windowOf which d)
+unfolding deskOlder
+older-of m main d = refl
+older-of m side d = refl
+
+module _ (s : Settings) (top : ℕ) (x : Input) (d : Desk) (which : Which) where
+  goes-on : Unanswered x d which → Ends x (windowOlder (x .m) (windowOf which d)) → ⊥
+  goes-on u (missed e) = let q = missed-exactly (x .m) (windowOf which d) .0 e in let low = q .1 in let high = u .time in omega arith
+  goes-on u (pressed k on answers) = u .no-press k on answers
+
+  after-unanswered : Unanswered x d which → Left s top x d which (windowOf which d .left) (windowOf which (stepOf s top x d .desk))
+  unfolding stepOf judgedOf crossingTurned braked windowOlder
+  after-unanswered u =
+      moved-it s top x d (windowOlder (x .m) (windowOf which d)) (windowOf which d .left) (u .stands .is-open)
+      (let high = u .time in omega arith) (goes-on u) which (u .stands .mode) (older-of (x .m) which d)
+
+  nearer :
+      Unanswered x d which → (Shuts s x d which → ⊥) → (Zones s top x d which → ⊥)
+      → (isOpen (windowOf which (stepOf s top x d .desk) .waits) ≡ true) × (windowOf which (stepOf s top x d .desk) .left + 1 ≡ windowOf which d .left)
+  nearer u no-shut no-zone = cases (after-unanswered u)
+    where
+      cases : Left s top x d which (windowOf which d .left) (windowOf which (stepOf s top x d .desk))
+          → (isOpen (windowOf which (stepOf s top x d .desk) .waits) ≡ true) × (windowOf which (stepOf s top x d .desk) .left + 1 ≡ windowOf which d .left)
+      cases (near o l) = (o, l)
+      cases (shut h) = absurd (no-shut h)
+      cases (zone h) = absurd (no-zone h)
+
+-- ---- shut, and the zone's
+
+read-3 : (f0 f1 : Bool) (e : Desk) → readingOf 3 f0 f1 e .window ≡ closed
+unfolding readingOf reading3 optionOffered
+read-3 true f1 e = refl
+read-3 false f1 e = refl
+
+read-8 : (f0 f1 : Bool) (e : Desk) → readingOf 8 f0 f1 e .window ≡ closed
+unfolding readingOf reading8 stopped
+read-8 f0 f1 e = refl
+
+read-7 : (f0 : Bool) (e : Desk) → zoneMet e ≡ true → readingOf 7 f0 true e .window ≡ opened waits.Zone zoneMiss
+unfolding readingOf reading7
+read-7 f0 e z = rw z
+
+module _ (s : Settings) (top : ℕ) (x : Input) (d : Desk) where
+  -- the main window after a reading is the reading's
+  after-read : reads s x d ≡ true → stepOf s top x d .desk .window ≡ readingOf (x .beacon) (protects (s .functions)) (zones (s .functions)) (withCode (x .beacon) (atBeacon s top x d)) .window
+  unfolding stepOf judgedOf crossingTurned braked movedOf beaconTaken readIf
+  after-read r = let e : readsAt s x (atBeacon s top x d) ≡ true = reads-at s top x d ∙ r in rw e
+
+  shut-after : (which : Which) → Shuts s x d which → windowOf which (stepOf s top x d .desk) ≡ closed
+  shut-after which h = rw (h .is-main) (cases (h .code))
+    where
+      cases : (x .beacon ≡ 3) ⊎ (x .beacon ≡ 8) → stepOf s top x d .desk .window ≡ closed
+      cases (inl e) = after-read (h .read) ∙ rw e (read-3 (protects (s .functions)) (zones (s .functions)) _)
+      cases (inr e) = after-read (h .read) ∙ rw e (read-8 (protects (s .functions)) (zones (s .functions)) _)
+
+  zone-after : (which : Which) → Zones s top x d which → windowOf which (stepOf s top x d .desk) ≡ opened waits.Zone zoneMiss
+  zone-after which h =
+      rw (h .is-main)
+      (after-read (h .read) ∙ rw (h .function, h .code) (read-7 (protects (s .functions)) _ (zone-code 7 (atBeacon s top x d) ∙ h .near)))
+
+  pub window-after : (which : Which) → WindowAfter s top x d (stepOf s top x d .desk) which
+  window-after which = record { nearer = nearer s top x d which; shut = shut-after which; zoned = zone-after which }
+
+-- ---- the slip
+
+nothing-pressed : (k : ℕ) → bitOf 0 (2 ^ k) ≡ true → ⊥
+nothing-pressed k h = false≢true (rw zero-div at h)
+
+unanswered-here : Unanswered beacon7 waitingDesk main
+unanswered-here =
+    record { stands = record { mode = refl; is-open = refl }; time = omega arith; no-press = λ k on answers. nothing-pressed k on }
+
+no-shut-here : (s : Settings) → Shuts s beacon7 waitingDesk main → ⊥
+no-shut-here s h = cases (h .code)
+  where
+    cases : (_≡_ {A = ℕ} 7 3) ⊎ (_≡_ {A = ℕ} 7 8) → ⊥
+    cases (inl e) = omega arith
+    cases (inr e) = omega arith
+
+not-near-here : (s : Settings) (top : ℕ) → zoneMet (atBeacon s top beacon7 waitingDesk) ≡ false
+unfolding pressesOf begun advanced sideMissed mainMissed missedOf windowOlder deskOlder reminded zoneMet mainCounts nearOf mainOlder
+not-near-here s top = refl
+
+pub no-lending : NoLending
+no-lending =
+    record {
+      not-lent = λ s top law.
+          let r = law .nearer unanswered-here (no-shut-here s) (λ z. false≢true (sym (not-near-here s top) ∙ z .near)) in
+          let time = r .1 in
+          omega arith;
+    }
+
+-- ---- any number of samples
+
+module _ (s : Settings) (top : ℕ) (which : Which) where
+  chain-time :
+      (xs : List Input) (d : Desk) → isOpen (windowOf which d .waits) ≡ true → AllUnanswered s top which xs d
+      → (isOpen (windowOf which (stepsOf s top xs d) .waits) ≡ true) × (windowOf which (stepsOf s top xs d) .left + length xs ≡ windowOf which d .left)
+  unfolding stepsOf AllUnanswered
+  chain-time [] d o u = (o, omega arith)
+  chain-time (x ∷ rest) d o u =
+      let one = nearer s top x d which (u .0) (u .1) (u .2) in
+      let r = chain-time rest (stepOf s top x d .desk) (one .0) (u .3) in
+      let p = one .1 in
+      let q = r .1 in
+      (r .0, omega arith)
+
+  chain-miss :
+      (xs : List Input) (x : Input) (d : Desk) → isOpen (windowOf which d .waits) ≡ true → AllUnanswered s top which xs d
+      → stepsOf s top xs d .bts ≡ x .bts → TimeOver x (stepsOf s top xs d) which ↔ (windowOf which d .left ≤ suc (length xs))
+  chain-miss xs x d o u mode =
+      let r = chain-time xs d o u in
+      let time = r .1 in (
+        λ t. let low = t .over in omega arith,
+        λ (h : windowOf which d .left ≤ suc (length xs)). record { stands = record { mode = mode; is-open = r .0 }; over = omega arith },
+      )
+
+pub chain-laws : (s : Settings) (top : ℕ) (which : Which) → ChainLaws s top which
+chain-laws s top which = record { chain-time = chain-time s top which; chain-miss = chain-miss s top which }
