@@ -30,7 +30,7 @@ use Rattle.printed.proofs.Silence.{print-silence}
 use Rattle.demands.specs.Runs.{rideOf, firstOf}
 use Rattle.demands.specs.Speaks.{untilSpeaks}
 use Rattle.demands.specs.Examples.{settings-R, settings-P, card-R}
-use Rattle.demands.specs.Demand3.{SameSpeaking, firstLines, Demand3, HypothesesMet, Partings}
+use Rattle.demands.specs.Demand3.{SameSpeaking, SameWithout, firstLines, Demand3, HypothesesMet, Partings}
 use Rattle.demands.proofs.Later.{later}
 use Rattle.demands.proofs.Alike.{alike-fresh}
 use Rattle.demands.proofs.Cards.{its-settings, its-range, common, opens, rides-alike}
@@ -39,32 +39,34 @@ use Rattle.demands.proofs.Computes.{card, definitions}
 
 -- ---- the demand
 
-module _ (a b : List ℕ) (h g : ℕ) (s t : Settings) (read-a : readCard a h ≡ given s) (read-b : readCard b g ≡ given t) (same : Same a b 3 39) where
-  settings-same : byte a 2 ≡ 1 → byte b 2 ≡ 2 → byte b 39 ≡ 0 → s ≡ t
-  settings-same one two none = its-settings a h s read-a ∙ same-card a b one two same none ∙ sym (its-settings b g t read-b)
+module _ (a b : List ℕ) (h g : ℕ) (s t : Settings) (read-a : readCard a h ≡ given s) (read-b : readCard b g ≡ given t) where
+  -- the settings of cards without later functions are the same
+  settings-same : SameWithout a b → s ≡ t
+  settings-same m =
+      its-settings a h s read-a ∙ same-card a b (m .version-1) (m .version-2) (m .common) (m .off) ∙ sym (its-settings b g t read-b)
 
-  same-rides : byte a 2 ≡ 1 → byte b 2 ≡ 2 → byte b 39 ≡ 0 → (train : ℕ) (xs : List Sample) → rideOf a h train xs ≡ rideOf b g train xs
-  same-rides one two none train xs = rw (read-a, read-b, settings-same one two none)
+  same-rides : SameWithout a b → (train : ℕ) (xs : List Sample) → rideOf a h train xs ≡ rideOf b g train xs
+  same-rides m train xs = rw (read-a, read-b, settings-same m)
 
-  -- their settings are the same but for later functions
-  settings-alike : t ≡ later s t
-  settings-alike = rw (its-settings a h s read-a, its-settings b g t read-b) (common a b same)
+  -- those of cards with the same common settings are the same but for later functions
+  settings-alike : Same a b 3 39 → t ≡ later s t
+  settings-alike same = rw (its-settings a h s read-a, its-settings b g t read-b) (common a b same)
 
-  alike-rides : (train : ℕ) (xs : List Sample) → firstOf (untilSpeaks s t train xs) (rideOf a h train xs) ≡ firstOf (untilSpeaks s t train xs) (rideOf b g train xs)
-  alike-rides train xs =
-      let e = settings-alike in
+  alike-rides : Same a b 3 39 → (train : ℕ) (xs : List Sample) → firstOf (untilSpeaks s t train xs) (rideOf a h train xs) ≡ firstOf (untilSpeaks s t train xs) (rideOf b g train xs)
+  alike-rides same train xs =
+      let e = settings-alike same in
       rw (read-a, read-b, e) (rides-alike s t train xs (its-range a h s read-a) (rw e at (its-range b g t read-b)))
 
 -- the same, printed
-module _ (columns : Columns) (a b recording : List ℕ) (s t : Settings) (read-a : readCard a highest ≡ given s) (read-b : readCard b highest ≡ given t) (same : Same a b 3 39) where
-  same-prints : byte a 2 ≡ 1 → byte b 2 ≡ 2 → byte b 39 ≡ 0 → printedRide columns a recording ≡ printedRide columns b recording
+module _ (columns : Columns) (a b recording : List ℕ) (s t : Settings) (read-a : readCard a highest ≡ given s) (read-b : readCard b highest ≡ given t) where
+  same-prints : SameWithout a b → printedRide columns a recording ≡ printedRide columns b recording
   unfolding printedRide
-  same-prints one two none = rw (read-a, read-b, settings-same a b highest highest s t read-a read-b same one two none)
+  same-prints m = rw (read-a, read-b, settings-same a b highest highest s t read-a read-b m)
 
-  alike-prints :
-      (let k = untilSpeaks s t (trainOf recording) (samplesOf recording) in
+  alike-prints : Same a b 3 39
+      → (let k = untilSpeaks s t (trainOf recording) (samplesOf recording) in
       firstLines (printedRide columns a recording) (suc k) ≡ firstLines (printedRide columns b recording) (suc k))
-  alike-prints =
+  alike-prints same =
       let train = trainOf recording in
       let xs = samplesOf recording in
       let one = settings-alike a b highest highest s t read-a read-b same in
@@ -79,10 +81,10 @@ pub demand-3 : Demand3
 demand-3 =
     record {
       silent-bytes = λ a b h m. let e = silence a b h (m .whole-a) (m .whole-b) (m .same) in (sym e, λ train xs. rw e);
-      versions-silent = λ a b h g s t read-a read-b one two same none. same-rides a b h g s t read-a read-b same one two none;
+      versions-silent = same-rides;
       functions-silent = alike-rides;
       version-2-refused = λ area long two. let e = knows-1-refuses-2 area long two in (e, λ train xs. rw e);
-      versions-print = λ columns a b recording s t read-a read-b one two same none. same-prints columns a b recording s t read-a read-b same one two none;
+      versions-print = same-prints;
       functions-print = alike-prints;
       silent-print = λ columns a b recording m. print-silence columns a b recording (m .whole-a) (m .whole-b) (m .same);
     }
@@ -124,7 +126,12 @@ hypotheses-met =
       reads-quiet = refl;
       reads-1 = refl;
       reads-2 = refl;
-      same-P = behind-same 0x00 0x27 0x01 0x00 0x2C 0x02 settings-P [] (0x00 ∷ 0x00 ∷ 0x00 ∷ 0x00 ∷ 0x00 ∷ []);
+      same-P = record {
+        version-1 = refl;
+        version-2 = refl;
+        common = behind-same 0x00 0x27 0x01 0x00 0x2C 0x02 settings-P [] (0x00 ∷ 0x00 ∷ 0x00 ∷ 0x00 ∷ 0x00 ∷ []);
+        off = refl;
+      };
       reads-R = refl;
       same-R = behind-same 0x00 0x2C 0x02 0x00 0x2C 0x02 settings-R (0x0F ∷ 0x00 ∷ 0xC8 ∷ 0x01 ∷ 0xF4 ∷ []) (0x0B ∷ 0x00 ∷ 0x00 ∷ 0x00 ∷ 0x00 ∷ []);
     }

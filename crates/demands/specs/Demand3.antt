@@ -33,21 +33,52 @@ pub record SameSpeaking (a b : List ℕ) : Type 0 where
   pub whole-b : lengthOf (byte a 2) ≤ length b
   pub same : (i : ℕ) → speaks (byte a 2) (byte a 39) i ≡ true → byte a i ≡ byte b i
 
+-- a version 1 card, and a version 2 card with the same common settings (bytes 3 to 38) and all four functions off
+pub record SameWithout (a b : List ℕ) : Type 0 where
+  pub version-1 : byte a 2 ≡ 1
+  pub version-2 : byte b 2 ≡ 2
+  pub common : Same a b 3 39
+  pub off : byte b 39 ≡ 0
+
+-- ---- as printed
+
+-- what prints a ride: columns, card and recording make a text
+abbrev pub Printer : Type 0
+Printer = Columns → List ℕ → List ℕ → List ℕ
+
+-- 3a. Two areas with the same speaking bytes print the same text.
+abbrev pub SilentPrint : Printer → Type 0
+SilentPrint print = (columns : Columns) (a b recording : List ℕ) → SameSpeaking a b → print columns a recording ≡ print columns b recording
+
+-- 3b. So do accepted cards of version 1 and 2 with the same common settings and all four functions off.
+abbrev pub VersionsPrint : Printer → Type 0
+VersionsPrint print = (columns : Columns) (a b recording : List ℕ) (s t : Settings) → readCard a highest ≡ given s → readCard b highest ≡ given t
+    → SameWithout a b → print columns a recording ≡ print columns b recording
+
 -- the first n lines of a text: up to and with its n-th newline, or all of it
 unfoldable pub firstLines : List ℕ → ℕ → List ℕ
 firstLines [] n = []
 firstLines (b ∷ rest) zero = []
 firstLines (b ∷ rest) (suc n) = b ∷ firstLines rest (pick (eqb b newline) n (suc n))
 
+-- 3c. Two cards that differ only in later functions print the same lines: the heading, and those of the samples up to, and not including, the
+-- first accepted one at which a differing function speaks.
+abbrev pub FunctionsPrint : Printer → Type 0
+FunctionsPrint print = (columns : Columns) (a b recording : List ℕ) (s t : Settings) → readCard a highest ≡ given s → readCard b highest ≡ given t
+    → Same a b 3 39 → (let k = untilSpeaks s t (trainOf recording) (samplesOf recording) in
+    firstLines (print columns a recording) (suc k) ≡ firstLines (print columns b recording) (suc k))
+
+-- ---- the demand
+
 pub record Demand3 : Type 0 where
   -- 3a. The same speaking bytes: the same reader reads both areas alike, as the same settings or refused the same; and the answers are the
   -- same for every train type and every list of samples.
   pub silent-bytes : (a b : List ℕ) (h : ℕ) → SameSpeaking a b
       → (readCard b h ≡ readCard a h) × ((train : ℕ) (xs : List Sample) → rideOf b h train xs ≡ rideOf a h train xs)
-  -- 3b. A version 1 card and a version 2 card, both accepted, with the same common settings (bytes 3 to 38) and all four functions off: the
-  -- same answers for every train type and every list of samples.
-  pub versions-silent : (a b : List ℕ) (h g : ℕ) (s t : Settings) → readCard a h ≡ given s → readCard b g ≡ given t → byte a 2 ≡ 1 → byte b 2 ≡ 2
-      → Same a b 3 39 → byte b 39 ≡ 0 → (train : ℕ) (xs : List Sample) → rideOf a h train xs ≡ rideOf b g train xs
+  -- 3b. Accepted cards of version 1 and 2 with the same common settings and all four functions off: the same answers for every train type and
+  -- every list of samples.
+  pub versions-silent : (a b : List ℕ) (h g : ℕ) (s t : Settings) → readCard a h ≡ given s → readCard b g ≡ given t → SameWithout a b
+      → (train : ℕ) (xs : List Sample) → rideOf a h train xs ≡ rideOf b g train xs
   -- 3c. Two accepted cards that differ only in later functions and their settings (the same bytes 3 to 38): for every train type and every
   -- list of samples the answers are the same up to, and not including, the first accepted sample at which a differing function speaks.
   pub functions-silent : (a b : List ℕ) (h g : ℕ) (s t : Settings) → readCard a h ≡ given s → readCard b g ≡ given t → Same a b 3 39
@@ -55,16 +86,10 @@ pub record Demand3 : Type 0 where
   -- 3d. "3 | card version above the reader's highest": a reader told to know version 1 refuses version 2 by name, and there is no more.
   pub version-2-refused : (area : List ℕ) → 3 ≤ length area → byte area 2 ≡ 2
       → (readCard area 1 ≡ refused 3) × ((train : ℕ) (xs : List Sample) → rideOf area 1 train xs ≡ refused 3)
-  -- The same of the printed ride. 3a: two areas with the same speaking bytes print the same text.
-  pub silent-print : (columns : Columns) (a b recording : List ℕ) → SameSpeaking a b → printedRide columns a recording ≡ printedRide columns b recording
-  -- 3b: so do a version 1 card and a version 2 card with the same common settings and all four functions off.
-  pub versions-print : (columns : Columns) (a b recording : List ℕ) (s t : Settings) → readCard a highest ≡ given s → readCard b highest ≡ given t
-      → byte a 2 ≡ 1 → byte b 2 ≡ 2 → Same a b 3 39 → byte b 39 ≡ 0 → printedRide columns a recording ≡ printedRide columns b recording
-  -- 3c: two cards that differ only in later functions print the same lines, the heading and those of the samples up to, and not including,
-  -- the line of the first accepted sample at which a differing function speaks.
-  pub functions-print : (columns : Columns) (a b recording : List ℕ) (s t : Settings) → readCard a highest ≡ given s → readCard b highest ≡ given t
-      → Same a b 3 39 → (let k = untilSpeaks s t (trainOf recording) (samplesOf recording) in
-      firstLines (printedRide columns a recording) (suc k) ≡ firstLines (printedRide columns b recording) (suc k))
+  -- and the same of the ride as it is printed
+  pub silent-print : SilentPrint printedRide
+  pub versions-print : VersionsPrint printedRide
+  pub functions-print : FunctionsPrint printedRide
 
 -- ---- its hypotheses are met, by realistic cards
 
@@ -85,7 +110,7 @@ pub record HypothesesMet : Type 0 where
   -- card P, from before 2015, and its version 2 form
   pub reads-1 : readCard card-P 1 ≡ given (settingsOf card-P)
   pub reads-2 : readCard card-P2 2 ≡ given (settingsOf card-P2)
-  pub same-P : Same card-P card-P2 3 39
+  pub same-P : SameWithout card-P card-P2
   -- card R with all functions, and with the reminder off
   pub reads-R : readCard (R 0x0F) 2 ≡ given (settingsOf (R 0x0F))
   pub same-R : Same (R 0x0F) quiet-R 3 39
