@@ -12,3 +12,4 @@ pub mod Demand3
 pub mod ShutOut
 pub mod Lazy
 pub mod Starred
+pub mod LazyPrints

@@ -1,8 +1,11 @@
 -- Lazy programs, by name. Of each: a statement that reads much like ours and lets it pass, and that ours does not.
 use Prim.Native.Nat.{ℕ}
 use mathlib.Core.Bool.{Bool, true, false}
-use mathlib.Core.List.{List, [], _∷_, map}
+use mathlib.Core.List.{List, [], _∷_, _++_, map}
 use mathlib.Core.Path.{_≡_}
+use lib.Dec.{eqb}
+use Rattle.leaf.specs.Choosing.{pick}
+use Rattle.leaf.specs.Bytes.{byte}
 use Rattle.leaf.specs.Answers.{Answer, given, refused, refusedAt, refusalOf}
 use Rattle.card.specs.declared.Settings.{Settings}
 use Rattle.step.specs.declared.Answer.{Answer as Told}
@@ -12,6 +15,9 @@ use Rattle.session.specs.declared.Sampled.{Sampled}
 use Rattle.session.specs.declared.Outcome.{Outcome}
 use Rattle.session.specs.declared.Outcome.the-variants.{Answered, Refused}
 use Rattle.session.specs.Session.{sampleOf}
+use Rattle.text.specs.Decimal.{newline}
+use Rattle.printed.specs.Printed.{printedRide}
+use Rattle.demands.specs.Demand3.{Printer, SilentPrint, VersionsPrint, FunctionsPrint}
 use Rattle.demands.specs.ShutOut.{Logic, document01, Equals, OneSpeed, Repeats}
 
 -- ---- logics
@@ -80,3 +86,19 @@ constantly s x = record { session = sampleOf s x .session; outcome = at8000 (sam
 pub record LogicsMissed : Type 0 where
   pub constant-missed : OneSpeedOfAll constantly → ⊥
   pub repeater-missed : (f : Session → Sample → Sampled) → ((s : Session) (x : Sample) → verdict (f s x .outcome) ≡ verdict (sampleOf s x .outcome)) → RepeatsAll f → ⊥
+
+-- ---- printers
+
+-- one that prints the card's version below the ride: the same text for the same speaking bytes, and not for version 1 and 2
+abbrev pub versionBelow : Printer
+versionBelow columns card recording = printedRide columns card recording ++ byte card 2 ∷ newline ∷ []
+
+-- one that prints the functions of a version 2 card above it: the same again, and not for cards that differ in functions that have not spoken
+abbrev pub functionsAbove : Printer
+functionsAbove columns card recording = pick (eqb (byte card 2) 2) (byte card 39) 0 ∷ newline ∷ printedRide columns card recording
+
+pub record PrintersOut : Type 0 where
+  pub version-passes : SilentPrint versionBelow
+  pub version-out : VersionsPrint versionBelow → ⊥
+  pub functions-passes : SilentPrint functionsAbove
+  pub functions-out : FunctionsPrint functionsAbove → ⊥
