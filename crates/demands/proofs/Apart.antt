@@ -3,12 +3,13 @@
 use Prim.Native.Nat.{ℕ, _*_}
 use native.Mathlib.Omega.{arith}
 use mathlib.Core.Bool.{Bool, true, false, _&&_, _||_, not}
-use mathlib.Core.Path.{_≡_, refl, sym, _∙_}
+use mathlib.Core.Path.{_≡_, refl, sym, ap, _∙_}
+use mathlib.Core.List.{_∷_}
 use lib.Dec.{eqb}
 use borrow.Author.Tests.{eqb-true}
 use Rattle.leaf.specs.Choosing.{pick, and-split}
-use Rattle.leaf.specs.Numbers.{bitOf}
 use Rattle.card.specs.declared.Settings.{Settings}
+use Rattle.card.specs.Card.{protects, zones, reminds, readsInBts}
 use Rattle.signals.specs.declared.control.Main.{Main}
 use Rattle.signals.specs.declared.control.MainKind.{MainKind}
 use Rattle.signals.specs.declared.control.MainKind.the-variants.{Clear, Start, ConditionalClear, Announcement, Preannouncement, Caution, BeforeStop, Stop, Zone}
@@ -22,37 +23,13 @@ use Rattle.desk.specs.Clock.{sameMode, deskOlder, reminded, mainCounts, advance
 use Rattle.buttons.specs.Buttons.{pressesOf}
 use Rattle.beacons.specs.Beacons.{isBeacon, isSide, readsOf, zoneMet, reading3, reading7, readingOf, readIf, beaconTaken}
 use Rattle.step.specs.declared.Input.{Input}
-use Rattle.step.specs.Speed.{mainSpeed, supervisedOf, crossingTurned}
+use Rattle.step.specs.declared.speed.Standing.{Standing}
+use Rattle.step.specs.Speed.{mainSpeed, none, alwaysAt, btsLimit, mainLimit, limitsBeside, leastOf, supervisedOf, crossingTurned}
 use Rattle.step.specs.Brake.{braked}
-use Rattle.step.specs.Step.{functionOn, movedOf, answerOf, judgedOf, stepOf}
+use Rattle.step.specs.Step.{movedOf, answerOf, judgedOf, stepOf}
+use Rattle.step_laws.specs.Walk.{atBeacon, readsAt}
 use Rattle.demands.specs.Speaks.{same}
-use Rattle.demands.specs.Kept.{calm, stays-calm, Kept, begin, presses, beacon}
-
--- settings with other functions, X and Y
-abbrev pub later : Settings → ℕ → ℕ → ℕ → Settings
-later s functions x y =
-    record {
-      vmax = s .vmax;
-      tick = s .tick;
-      bts = s .bts;
-      «conditional_clear» = s .«conditional_clear»;
-      announcement = s .announcement;
-      preannouncement = s .preannouncement;
-      caution = s .caution;
-      «before_stop» = s .«before_stop»;
-      crossing = s .crossing;
-      limit = s .limit;
-      start = s .start;
-      functions = functions;
-      x = x;
-      y = y;
-    }
-
--- ---- tests that are false
-
-pub or-false : (a b : Bool) → (a || b) ≡ false → (a ≡ false) × (b ≡ false)
-or-false true b h = absurd (let z : _≡_ {A = ℕ} 0 1 = cc in omega arith)
-or-false false b h = (refl, h)
+use Rattle.demands.proofs.Later.{later, or-false}
 
 -- ---- the reminders: bit 2, X and Y
 
@@ -157,47 +134,49 @@ beacon-alike code f0 g0 f1 g1 f3 g3 d h0 h1 h3 =
 
 -- ---- speed, brake and answer see no function
 
-main-alike : (s : Settings) (f v w : ℕ) (k : MainKind) (c : Main) (top : ℕ) → mainSpeed k c (later s f v w) top ≡ mainSpeed k c s top
+main-alike : (s t : Settings) (k : MainKind) (c : Main) (top : ℕ) → mainSpeed k c (later s t) top ≡ mainSpeed k c s top
 unfolding mainSpeed
-main-alike s f v w Clear c top = refl
-main-alike s f v w Start c top = refl
-main-alike s f v w ConditionalClear c top = refl
-main-alike s f v w Announcement c top = refl
-main-alike s f v w Preannouncement c top = refl
-main-alike s f v w Caution c top = refl
-main-alike s f v w BeforeStop c top = refl
-main-alike s f v w Stop c top = refl
-main-alike s f v w Zone c top = refl
+main-alike s t Clear c top = refl
+main-alike s t Start c top = refl
+main-alike s t ConditionalClear c top = refl
+main-alike s t Announcement c top = refl
+main-alike s t Preannouncement c top = refl
+main-alike s t Caution c top = refl
+main-alike s t BeforeStop c top = refl
+main-alike s t Stop c top = refl
+main-alike s t Zone c top = refl
 
-speed-alike : (s : Settings) (f v w top : ℕ) (d : Desk) → supervisedOf (later s f v w) top d ≡ supervisedOf s top d
+limit-alike : (s t : Settings) (top : ℕ) (c : Main) → mainLimit (later s t) top c ≡ mainLimit s top c
+unfolding mainLimit
+limit-alike s t top c = rw (main-alike s t (c .kind) c top)
+
+speed-alike : (s t : Settings) (top : ℕ) (d : Desk) → supervisedOf (later s t) top d ≡ supervisedOf s top d
 unfolding supervisedOf
-speed-alike s f v w top d = rw (main-alike s f v w (d .main .kind) (d .main) top)
+speed-alike s t top d =
+    ap (λ (l : Standing). leastOf none (alwaysAt (s .vmax * 100) ∷ alwaysAt top ∷ btsLimit (d .bts) (s .bts) ∷ l ∷ limitsBeside s top (d .beside)) .speed)
+    (limit-alike s t top (d .main))
 
-judged-alike : (s : Settings) (f v w top : ℕ) (x : Input) (cause : ℕ) (d : Desk) → judgedOf (later s f v w) top x cause d ≡ judgedOf s top x cause d
+judged-alike : (s t : Settings) (top : ℕ) (x : Input) (cause : ℕ) (d : Desk) → judgedOf (later s t) top x cause d ≡ judgedOf s top x cause d
 unfolding judgedOf answerOf
-judged-alike s f v w top x cause d = rw (speed-alike s f v w top (crossingTurned (x .m) d))
+judged-alike s t top x cause d = rw (speed-alike s t top (crossingTurned (x .m) d))
 
 -- ---- the sample of the desk
 
--- the desk where the beacon is looked at
-abbrev read : Settings → ℕ → Input → Desk → Desk
-read s top x d = pressesOf (x .buttons) (x .m) (s .limit) top (begun (x .bts) (x .m) (functionOn s 4) (s .x) (s .y) d .desk)
-
 module _
-    (s : Settings) (f v w top : ℕ) (x : Input) (d : Desk)
-    (h2 : RemindsAlike (x .bts) (x .m) (functionOn s 4) (bitOf f 4) (s .x) (s .y) v w d)
-    (mode : read s top x d .bts ≡ x .bts)
-    (h0 : Apart (functionOn s 1) (bitOf f 1) (eqb (x .beacon) 3 || eqb (x .beacon) 4))
-    (h1 : Apart (functionOn s 2) (bitOf f 2) (eqb (x .beacon) 7 && readsOf (x .beacon) (functionOn s 8) (read s top x d .bts) (read s top x d .code) && zoneMet (read s top x d)))
-    (h3 : Apart (functionOn s 8) (bitOf f 8) (x .bts && isSide (x .beacon))) where
-  moved-alike : movedOf (later s f v w) top x d ≡ movedOf s top x d
+    (s t : Settings) (top : ℕ) (x : Input) (d : Desk)
+    (h2 : RemindsAlike (x .bts) (x .m) (reminds (s .functions)) (reminds (t .functions)) (s .x) (s .y) (t .x) (t .y) d)
+    (mode : atBeacon s top x d .bts ≡ x .bts)
+    (h0 : Apart (protects (s .functions)) (protects (t .functions)) (eqb (x .beacon) 3 || eqb (x .beacon) 4))
+    (h1 : Apart (zones (s .functions)) (zones (t .functions)) (eqb (x .beacon) 7 && readsAt s x (atBeacon s top x d) && zoneMet (atBeacon s top x d)))
+    (h3 : Apart (readsInBts (s .functions)) (readsInBts (t .functions)) (x .bts && isSide (x .beacon))) where
+  moved-alike : movedOf (later s t) top x d ≡ movedOf s top x d
   unfolding movedOf
   moved-alike =
       rw (
-        ← (begun-alike (x .bts) (x .m) (functionOn s 4) (bitOf f 4) (s .x) (s .y) v w d h2),
-        ← (beacon-alike (x .beacon) (functionOn s 1) (bitOf f 1) (functionOn s 2) (bitOf f 2) (functionOn s 8) (bitOf f 8) (read s top x d) h0 h1 (rw mode h3)),
+        ← (begun-alike (x .bts) (x .m) (reminds (s .functions)) (reminds (t .functions)) (s .x) (s .y) (t .x) (t .y) d h2),
+        ← (beacon-alike (x .beacon) (protects (s .functions)) (protects (t .functions)) (zones (s .functions)) (zones (t .functions)) (readsInBts (s .functions)) (readsInBts (t .functions)) (atBeacon s top x d) h0 h1 (rw mode h3)),
       )
 
-  pub step-alike : stepOf (later s f v w) top x d ≡ stepOf s top x d
+  pub step-alike : stepOf (later s t) top x d ≡ stepOf s top x d
   unfolding stepOf
-  step-alike = rw moved-alike (judged-alike s f v w top x _ _)
+  step-alike = rw moved-alike (judged-alike s t top x _ _)

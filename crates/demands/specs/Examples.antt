@@ -11,8 +11,8 @@ use Rattle.session.specs.declared.Sample.{Sample}
 use Rattle.session.specs.declared.Session.{Session}
 use Rattle.session.specs.declared.Outcome.{Outcome}
 use Rattle.session.specs.declared.Outcome.the-variants as outcome
-use Rattle.laws.specs.Inside as made
-use Rattle.demands.specs.Runs.{after}
+use Rattle.session.specs.Session.{sampleOf}
+use Rattle.session.specs.Runs.{after}
 
 -- ---- samples
 
@@ -30,7 +30,7 @@ times (suc n) x xs = x ∷ times n x xs
 
 -- the outcome of a sample that comes after others, in a session that opening gives
 abbrev pub endOf : Answer Session → List Sample → Sample → Answer Outcome
-endOf (given s) xs x = given (after (made.after s xs) x .outcome)
+endOf (given s) xs x = given (sampleOf (after s xs) x .outcome)
 endOf (refused n) xs x = refused n
 endOf (refusedAt n place) xs x = refusedAt n place
 

@@ -10,19 +10,19 @@ use Rattle.signals.specs.Stop.{alongsideOlder, alongsideAfter, overrideOlder, r
 use Rattle.signals.specs.Windows.{answersOf, windowOlder, missedOf, timeLeft}
 use Rattle.sides.specs.Crossing.{crossingOlder, unprotectedSet, protectedSet, turnsAt, turnedAt, iconOf, optionOlder}
 use Rattle.sides.specs.Limit.{limitSet, steppedFinal, limitSpeed, mayStep, removable}
+use Rattle.desk.specs.Beside.{besideOlder}
+use Rattle.desk.specs.Ranges.{besideInside, deskInside}
 use Rattle.desk.specs.Clock.{deskOlder, reminded, mainCounts, sideCounts, mainMissed, sideMissed, advanced, begun}
 use Rattle.desk.specs.State.{takenOver, crossingSet, limitNow, modeChanged}
 use Rattle.buttons.specs.Buttons.{chosen, answeredBy, mainAnswered, sideAnswered, pressed, freeFor, optionUsed, limitRemoved, reminderAnswered, overrideArmed, stopIncreased, limitStepped, crossingPressed, limitPressed, overridePressed, increasePressed, hidePressed, windowPresses, allPresses, pressesOf}
 use Rattle.beacons.specs.Beacons.{readsOf, mainOpened, sideOpened, reading1, readingRow, optionOffered, reading3, reading4, zoneMet, reading7, stopped, reading8, reading9, readingLimit, readingOf, readIf, beaconTaken}
 use Rattle.step.specs.Brake.{lowest, standingCause, braked, windowLamps, controlLamps, lampsOf}
 use Rattle.step.specs.Step.{movedOf, answerOf, judgedOf, stepOf}
-use Rattle.step.specs.Speed.{crossingTurned, mainSpeed, leastIf, supervisedOf}
-use Rattle.session.specs.Ranges.{deskInside}
+use Rattle.step.specs.Speed.{crossingTurned, mainSpeed, btsLimit, mainLimit, alongsideLimit, crossingLimit, limitLimit, lower, supervisedOf}
 use Rattle.session.specs.Session.{openSession, settingsInside, insideOf, refusedBy, ranOf, sampleOf}
 use Rattle.session.specs.Types.{typeSpeed, typeAllowed}
-use Rattle.laws.specs.Inside as made
-use Rattle.demands.specs.Runs.{outcomes}
-use Rattle.demands.specs.Speaks.{speaks1, speaks2, differingSpeaks, silentFor}
+use Rattle.session.specs.Runs.{after, outcomes}
+use Rattle.demands.specs.Speaks.{meetsZone, meetsReminder, differingSpeaks, silentFor}
 
 unfoldable pub card : Unit {0}
 unfolding byte word orFault rowAt settingsFault faultOf checkSettings functionsFrom settingsFrom answerBy readCard
@@ -37,7 +37,7 @@ unfolding fallenOf curveOf rowSpeed crossingOlder unprotectedSet protectedSet tu
 side-parts = tt
 
 unfoldable pub desk : Unit {0}
-unfolding deskOlder reminded mainCounts sideCounts mainMissed sideMissed advanced begun takenOver crossingSet limitNow modeChanged
+unfolding besideOlder deskOlder reminded mainCounts sideCounts mainMissed sideMissed advanced begun takenOver crossingSet limitNow modeChanged
 desk = tt
 
 unfoldable pub presses : Unit {0}
@@ -49,13 +49,13 @@ unfolding readsOf mainOpened sideOpened reading1 readingRow optionOffered readin
 beacons = tt
 
 unfoldable pub sample : Unit {0}
-unfolding lowest standingCause braked windowLamps controlLamps lampsOf movedOf answerOf judgedOf stepOf crossingTurned mainSpeed leastIf supervisedOf
+unfolding lowest standingCause braked windowLamps controlLamps lampsOf movedOf answerOf judgedOf stepOf crossingTurned mainSpeed btsLimit mainLimit alongsideLimit crossingLimit limitLimit lower supervisedOf
 sample = tt
 
 unfoldable pub session : Unit {0}
-unfolding deskInside openSession settingsInside insideOf refusedBy ranOf sampleOf typeSpeed typeAllowed
+unfolding besideInside deskInside openSession settingsInside insideOf refusedBy ranOf sampleOf typeSpeed typeAllowed
 session = tt
 
 unfoldable pub definitions : Unit {0}
-unfolding card signal-parts side-parts desk presses beacons sample session outcomes made.after speaks1 speaks2 differingSpeaks silentFor
+unfolding card signal-parts side-parts desk presses beacons sample session outcomes after meetsZone meetsReminder differingSpeaks silentFor
 definitions = tt

@@ -1,35 +1,35 @@
--- What an accepted card says: settings in range for opening, and, where two have the same common settings, the same but for functions, X
--- and Y.
+-- What an accepted card says: settings that opening takes, and, where two have the same common settings, the same but for later functions.
 use Prim.Native.Nat.{ℕ, _+_, _≤_}
 use native.Mathlib.Omega.{arith}
 use mathlib.Core.Bool.{Bool, true, false}
-use mathlib.Core.Path.{_≡_, refl, sym, ap, _∙_}
+use mathlib.Core.Path.{_≡_, refl, ap}
 use mathlib.Core.List.{List}
 use lib.Dec.{lit≤, lit<}
-use lib.ListN.{length, take}
+use lib.ListN.{length}
 use borrow.Author.Tests.{leb-true}
 use Rattle.leaf.specs.Choosing.{pick}
 use Rattle.leaf.specs.Bytes.{byte, word}
-use Rattle.leaf.specs.Answers.{Answer, given, refused}
+use Rattle.leaf.specs.Answers.{Answer, given, refused, refusedAt, isGiven}
 use Rattle.card.specs.declared.Settings.{Settings}
 use Rattle.card.specs.Card.{lengthOf, rowAt}
 use Rattle.card.specs.Ranges.{checkSettings}
 use Rattle.card.specs.Reading.{settingsFrom, settingsOf, readCard}
 use Rattle.card.specs.Plain.{SettingsMet}
-use Rattle.card.proofs.Accepted.{read-checks, accepted-only, settings-met, in-range-when}
+use Rattle.card.proofs.Accepted.{read-checks, accepted-only, settings-met}
 use Rattle.card.proofs.Same.{Same, same-word, same-row, same-part}
 use Rattle.session.specs.declared.Sample.{Sample}
 use Rattle.session.specs.declared.Session.{Session}
 use Rattle.session.specs.declared.Outcome.{Outcome}
 use Rattle.session.specs.Types.{typeAllowed}
-use Rattle.session.specs.Session.{freshSession, openSession}
-use Rattle.demands.specs.Runs.{outcomes, runFrom, firstOf}
+use Rattle.session.specs.Session.{openingVersion, freshSession, openedAfter, openSession, settingsInside}
+use Rattle.laws.proofs.Ranges.{settings-when}
+use Rattle.demands.specs.Runs.{runFrom, firstOf}
 use Rattle.demands.specs.Speaks.{untilSpeaks}
-use Rattle.demands.specs.Apart.{later}
-use Rattle.demands.specs.Alike.{alike}
+use Rattle.demands.proofs.Later.{later}
+use Rattle.demands.proofs.Alike.{alike-fresh}
 
--- "opening takes no version": settings in range beside any version are in range beside 2
-beside-2 : (v : ℕ) (s : Settings) → SettingsMet v s → SettingsMet 2 s
+-- "opening takes no version": settings in range beside any version are in range for it
+beside-2 : (v : ℕ) (s : Settings) → SettingsMet v s → SettingsMet openingVersion s
 beside-2 v s m =
     record {
       vmax-low = m .vmax-low;
@@ -57,16 +57,15 @@ module _ (area : List ℕ) (h : ℕ) (s : Settings) (read : readCard area h ≡ 
   pub its-settings : s ≡ settingsOf area
   its-settings = accepted-only area h s read .1
 
-  pub its-range : SettingsMet 2 s
-  its-range = rw its-settings (beside-2 (byte area 2) (settingsOf area) (settings-met area h (accepted-only area h s read .0)))
+  pub its-range : settingsInside s ≡ true
+  its-range = settings-when s (rw its-settings (beside-2 (byte area 2) (settingsOf area) (settings-met area h (accepted-only area h s read .0))))
 
   -- the whole record is there
   pub its-length : lengthOf (byte area 2) ≤ length area
   its-length = leb-true _ _ (read-checks area h s read .0 .1 .1 .1 .1 .1 .0)
 
--- the same bytes 3 to 38: the same settings but for functions, X and Y
-pub common : (a b : List ℕ) → Same a b 3 39
-    → settingsOf b ≡ later (settingsOf a) (settingsOf b .functions) (settingsOf b .x) (settingsOf b .y)
+-- the same bytes 3 to 38: the same settings but for later functions
+pub common : (a b : List ℕ) → Same a b 3 39 → settingsOf b ≡ later (settingsOf a) (settingsOf b)
 unfolding settingsFrom
 common a b h =
     let row : (at : ℕ) → 3 ≤ at → at + 4 ≤ 39 → rowAt a at ≡ rowAt b at = λ at low high. same-row a b at (same-part a b 3 39 at (at + 4) h low high) in
@@ -85,22 +84,27 @@ common a b h =
     )
 
 -- settings in range are refused by opening only for the train type
-pub opens : (s : Settings) (train : ℕ) → SettingsMet 2 s
+pub opens : (s : Settings) (train : ℕ) → settingsInside s ≡ true
     → openSession s train ≡ pick (typeAllowed train (s .vmax)) (given (freshSession s train)) (refused 7)
-unfolding openSession
-opens s train m = rw (in-range-when 2 s m)
+unfolding openSession settingsInside
+opens s train inside = cases (checkSettings openingVersion s) inside
+  where
+    cases : (a : Answer Unit) → isGiven a ≡ true → openedAfter a s train ≡ pick (typeAllowed train (s .vmax)) (given (freshSession s train)) (refused 7)
+    cases (given u) h = refl
+    cases (refused n) h = cc
+    cases (refusedAt n place) h = cc
 
--- rides on settings that are the same but for functions, X and Y: alike until a differing function speaks
-pub rides-alike : (s : Settings) (f x y train : ℕ) (xs : List Sample) → SettingsMet 2 s → SettingsMet 2 (later s f x y)
-    → firstOf (untilSpeaks s (later s f x y) train xs) (runFrom (openSession s train) xs)
-    ≡ firstOf (untilSpeaks s (later s f x y) train xs) (runFrom (openSession (later s f x y) train) xs)
-rides-alike s f x y train xs m n = rw (opens s train m, opens (later s f x y) train n) (cases (typeAllowed train (s .vmax)))
+-- rides on settings that are the same but for later functions: alike until one that differs speaks
+pub rides-alike : (s t : Settings) (train : ℕ) (xs : List Sample) → settingsInside s ≡ true → settingsInside (later s t) ≡ true
+    → firstOf (untilSpeaks s (later s t) train xs) (runFrom (openSession s train) xs)
+    ≡ firstOf (untilSpeaks s (later s t) train xs) (runFrom (openSession (later s t) train) xs)
+rides-alike s t train xs inside also = rw (opens s train inside, opens (later s t) train also) (cases (typeAllowed train (s .vmax)))
   where
     k : ℕ
-    k = untilSpeaks s (later s f x y) train xs
+    k = untilSpeaks s (later s t) train xs
 
-    cases : (t : Bool)
-        → firstOf k (runFrom (pick t (given (freshSession s train)) (refused 7)) xs)
-        ≡ firstOf k (runFrom (pick t (given (freshSession (later s f x y) train)) (refused 7)) xs)
-    cases true = ap (λ (l : List Outcome). given l) (alike s train f x y m n _ xs (λ _. refl))
+    cases : (b : Bool)
+        → firstOf k (runFrom (pick b (given (freshSession s train)) (refused 7)) xs)
+        ≡ firstOf k (runFrom (pick b (given (freshSession (later s t) train)) (refused 7)) xs)
+    cases true = ap (λ (l : List Outcome). given l) (alike-fresh s t train inside also xs)
     cases false = refl
