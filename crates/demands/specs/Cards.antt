@@ -7,17 +7,19 @@ use mathlib.Core.Path.{_≡_, refl, sym, ap, _∙_}
 use mathlib.Core.List.{List}
 use lib.Dec.{lit≤, lit<}
 use lib.ListN.{length, take}
-use borrow.Author.Tests.{leb-true}
 use Rattle.leaf.specs.Choosing.{pick}
 use Rattle.leaf.specs.Bytes.{byte, word}
 use Rattle.leaf.specs.Answers.{Answer, given, refused}
 use Rattle.card.specs.declared.Settings.{Settings}
-use Rattle.card.specs.Card.{lengthOf, rowAt}
+use Rattle.card.specs.Card.{lengthOf, rowAt, Same}
 use Rattle.card.specs.Ranges.{checkSettings}
 use Rattle.card.specs.Reading.{settingsFrom, settingsOf, readCard}
 use Rattle.card.specs.Plain.{SettingsMet}
-use Rattle.card.proofs.Accepted.{read-checks, accepted-only, settings-met, in-range-when}
-use Rattle.card.proofs.Same.{Same, same-word, same-row, same-part}
+use Rattle.card.proofs.InRange.{beside}
+use Rattle.card.proofs.Area.{record-there}
+use Rattle.card.proofs.Exactly.{card-settings}
+use Rattle.card.proofs.Accepted.{accepted-only, in-range-when}
+use Rattle.card.proofs.Same.{same-word, same-row, same-part}
 use Rattle.session.specs.declared.Session.{Session}
 use Rattle.session.specs.declared.Outcome.{Outcome}
 use Rattle.session.specs.Types.{typeAllowed}
@@ -27,41 +29,18 @@ use Rattle.demands.specs.Speaks.{untilSpeaks}
 use Rattle.demands.specs.Apart.{later}
 use Rattle.demands.specs.Alike.{alike}
 
--- "opening takes no version": settings in range beside any version are in range beside 2
-beside-2 : (v : ℕ) (s : Settings) → SettingsMet v s → SettingsMet 2 s
-beside-2 v s m =
-    record {
-      vmax-low = m .vmax-low;
-      vmax-high = m .vmax-high;
-      tick-low = m .tick-low;
-      tick-high = m .tick-high;
-      bts-low = m .bts-low;
-      bts-high = m .bts-high;
-      conditional-clear = m .conditional-clear;
-      announcement = m .announcement;
-      preannouncement = m .preannouncement;
-      caution = m .caution;
-      before-stop = m .before-stop;
-      crossing = m .crossing;
-      limit = m .limit;
-      start = m .start;
-      functions-none = λ e. absurd (omega arith);
-      functions-high = m .functions-high;
-      reminder-on = m .reminder-on;
-      reminder-off = m .reminder-off;
-    }
-
 module _ (area : List ℕ) (h : ℕ) (s : Settings) (read : readCard area h ≡ given s) where
   -- the settings are those of the card's bytes
   pub its-settings : s ≡ settingsOf area
   its-settings = accepted-only area h s read .1
 
+  -- "opening takes no version": they are in range beside version 2
   pub its-range : SettingsMet 2 s
-  its-range = rw its-settings (beside-2 (byte area 2) (settingsOf area) (settings-met area h (accepted-only area h s read .0)))
+  its-range = rw its-settings (beside (λ one. absurd (omega arith)) (card-settings area h (accepted-only area h s read .0)))
 
   -- the whole record is there
   pub its-length : lengthOf (byte area 2) ≤ length area
-  its-length = leb-true _ _ (read-checks area h s read .0 .1 .1 .1 .1 .1 .0)
+  its-length = record-there area h (accepted-only area h s read .0 .header)
 
 -- the same bytes 3 to 38: the same settings but for functions, X and Y
 pub common : (a b : List ℕ) → Same a b 3 39

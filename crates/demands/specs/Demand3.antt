@@ -12,9 +12,8 @@ use lib.ListN.{length}
 use Rattle.leaf.specs.Bytes.{byte}
 use Rattle.leaf.specs.Answers.{given, refused}
 use Rattle.card.specs.declared.Settings.{Settings}
-use Rattle.card.specs.Card.{lengthOf, speaks}
+use Rattle.card.specs.Card.{lengthOf, speaks, Same}
 use Rattle.card.specs.Reading.{readCard}
-use Rattle.card.proofs.Same.{Same}
 use Rattle.card.proofs.Silence.{silence}
 use Rattle.card.proofs.Versions.{knows-1-refuses-2, same-card}
 use Rattle.printed.specs.declared.Columns.{Columns}

@@ -9,9 +9,8 @@ use lib.ListN.{length, getD, List·getD-append}
 use borrow.Author.Tests.{leb-false, ltb-true}
 use Rattle.leaf.specs.Bytes.{byte}
 use Rattle.leaf.specs.Answers.{given}
-use Rattle.card.specs.Card.{speaks}
+use Rattle.card.specs.Card.{speaks, Same}
 use Rattle.card.specs.Reading.{settingsOf, readCard}
-use Rattle.card.proofs.Same.{Same}
 use Rattle.demands.specs.Runs.{Sample, rideOf, firstOf}
 use Rattle.demands.specs.Speaks.{untilSpeaks}
 use Rattle.demands.specs.Rides.{settings-R, settings-P, card-R, card-P, card-P2}

@@ -13,7 +13,7 @@ use Rattle.leaf.specs.declared.Refusal.the-variants.{Number}
 use Rattle.card.specs.declared.Settings.{Settings}
 use Rattle.card.specs.Plain.{SettingsMet}
 use Rattle.card.specs.Ranges.{checksOf, faultOf, checkSettings, inRange}
-use Rattle.card.proofs.InRange.{fault-met}
+use Rattle.card.proofs.Exactly.{fault-met}
 use Rattle.card.proofs.Accepted.{in-range-when}
 use Rattle.card.proofs.Places.{check-place}
 use Rattle.session.specs.declared.Session.{Session}

@@ -8,7 +8,7 @@ use mathlib.Core.Bool.{Bool, true, false, false≢true}
 use Rattle.leaf.specs.Checks.{orFault}
 use Rattle.leaf.specs.Answers.{given}
 use Rattle.card.specs.Ranges.{settingsFault, faultOf, checkSettings}
-use Rattle.card.proofs.Examples.{cardA}
+use Rattle.card.specs.CardA.{cardA}
 use Rattle.curve.specs.Curve.{fallenOf, curveOf, rowSpeed}
 use Rattle.signals.specs.declared.control.MainKind.the-variants.{Start, BeforeStop}
 use Rattle.signals.specs.Windows.{windowOlder, missedOf, timeLeft}
