@@ -4,62 +4,139 @@
 --
 -- Stated of the sessions that demand 2 defines: `rideOf area highest train xs` is all that a desk answers
 -- with this card, a reader told to know the versions up to `highest`, this train type, and these samples.
-use Prim.Native.Nat.{ℕ, _≤_}
-use mathlib.Core.Bool.{true}
-use mathlib.Core.Path.{_≡_, refl, sym, _∙_}
-use mathlib.Core.List.{List}
+use Prim.Native.Nat.{ℕ, zero, suc, _≤_}
+use mathlib.Core.Bool.{true, false}
+use mathlib.Core.Path.{_≡_}
+use mathlib.Core.List.{List, [], _∷_, _++_}
+use lib.Dec.{eqb}
 use lib.ListN.{length}
+use Rattle.leaf.specs.Choosing.{pick}
 use Rattle.leaf.specs.Bytes.{byte}
 use Rattle.leaf.specs.Answers.{given, refused}
 use Rattle.card.specs.declared.Settings.{Settings}
 use Rattle.card.specs.Card.{lengthOf, speaks}
-use Rattle.card.specs.Reading.{readCard}
+use Rattle.card.specs.Reading.{settingsOf, readCard}
 use Rattle.card.proofs.Same.{Same}
-use Rattle.card.proofs.Silence.{silence}
-use Rattle.card.proofs.Versions.{knows-1-refuses-2, same-card}
-use Rattle.printed.specs.declared.Columns.{Columns}
-use Rattle.printed.specs.Printed.{printedRide}
-use Rattle.printed.proofs.Silence.{print-silence}
 use Rattle.session.specs.declared.Sample.{Sample}
+use Rattle.session.specs.declared.Outcome.{Outcome}
+use Rattle.text.specs.Decimal.{newline}
+use Rattle.printed.specs.declared.Columns.{Columns}
+use Rattle.rides.specs.Recording.{trainOf, samplesOf}
+use Rattle.printed.specs.Printed.{highest, printedRide}
 use Rattle.demands.specs.Runs.{rideOf, firstOf}
 use Rattle.demands.specs.Speaks.{untilSpeaks}
-use Rattle.demands.specs.Apart.{later}
-use Rattle.demands.specs.Cards.{its-settings, its-range, its-length, common, rides-alike}
+use Rattle.demands.specs.Examples.{conv, bts, times, answer, shows, repeated, card-R, card-P, card-P2}
 
--- 3a. "Speaking bytes: the record, less 40–43 when bit 2 is off." An accepted card, and any area at least as long as its record with the same
--- speaking bytes: it is accepted too, by the same reader, as the same settings; and the answers are the same for every train type and every
--- list of samples.
-pub silent-bytes : (a b : List ℕ) (h : ℕ) (s : Settings) → readCard a h ≡ given s → lengthOf (byte a 2) ≤ length b
-    → ((i : ℕ) → speaks (byte a 2) (byte a 39) i ≡ true → byte a i ≡ byte b i)
-    → (readCard b h ≡ given s) × ((train : ℕ) (xs : List Sample) → rideOf b h train xs ≡ rideOf a h train xs)
-silent-bytes a b h s read fits same =
-    let e = silence a b h (its-length a h s read) fits same in
-    (sym e ∙ read, λ train xs. rw e)
+-- "Speaking bytes: the record, less 40–43 when bit 2 is off.": both areas hold the first one's record, and its speaking bytes are the same
+pub record SameSpeaking (a b : List ℕ) : Type 0 where
+  pub whole-a : lengthOf (byte a 2) ≤ length a
+  pub whole-b : lengthOf (byte a 2) ≤ length b
+  pub same : (i : ℕ) → speaks (byte a 2) (byte a 39) i ≡ true → byte a i ≡ byte b i
 
--- 3b. A version 1 card and a version 2 card, both accepted, with the same common settings (bytes 3 to 38) and all four functions off: the same
--- answers for every train type and every list of samples.
-pub versions-silent : (a b : List ℕ) (h g : ℕ) (s t : Settings) → readCard a h ≡ given s → readCard b g ≡ given t → byte a 2 ≡ 1 → byte b 2 ≡ 2
-    → Same a b 3 39 → byte b 39 ≡ 0 → (train : ℕ) (xs : List Sample) → rideOf a h train xs ≡ rideOf b g train xs
-versions-silent a b h g s t read-a read-b one two same none train xs =
-    let e : s ≡ t = its-settings a h s read-a ∙ same-card a b one two same none ∙ sym (its-settings b g t read-b) in
-    rw (read-a, read-b, e)
+-- a version 1 card, and a version 2 card with the same common settings (bytes 3 to 38) and all four functions off
+pub record SameWithout (a b : List ℕ) : Type 0 where
+  pub version-1 : byte a 2 ≡ 1
+  pub version-2 : byte b 2 ≡ 2
+  pub common : Same a b 3 39
+  pub off : byte b 39 ≡ 0
 
--- 3c. Two accepted cards that differ only in later functions and their settings (the same bytes 3 to 38): for every train type and every list
--- of samples the answers are the same up to, and not including, the first accepted sample at which a differing function speaks.
-pub functions-silent : (a b : List ℕ) (h g : ℕ) (s t : Settings) → readCard a h ≡ given s → readCard b g ≡ given t → Same a b 3 39
-    → (train : ℕ) (xs : List Sample) → firstOf (untilSpeaks s t train xs) (rideOf a h train xs) ≡ firstOf (untilSpeaks s t train xs) (rideOf b g train xs)
-functions-silent a b h g s t read-a read-b same train xs =
-    let e : t ≡ later s (t .functions) (t .x) (t .y) = rw (its-settings a h s read-a, its-settings b g t read-b) (common a b same) in
-    rw (read-a, read-b, e) (rides-alike s (t .functions) (t .x) (t .y) train xs (its-range a h s read-a) (rw e at (its-range b g t read-b)))
+-- ---- as printed
 
--- 3d. "3 | card version above the reader's highest": a reader told to know version 1 refuses version 2 by name, and there is no more.
-pub version-2-refused : (area : List ℕ) → 3 ≤ length area → byte area 2 ≡ 2
-    → (readCard area 1 ≡ refused 3) × ((train : ℕ) (xs : List Sample) → rideOf area 1 train xs ≡ refused 3)
-version-2-refused area long two =
-    let e = knows-1-refuses-2 area long two in
-    (e, λ train xs. rw e)
+-- what prints a ride: columns, card and recording make a text
+abbrev pub Printer : Type 0
+Printer = Columns → List ℕ → List ℕ → List ℕ
 
--- The same of the printed ride: two areas with the same speaking bytes print the same text.
-pub silent-print : (columns : Columns) (a b recording : List ℕ) → lengthOf (byte a 2) ≤ length a → lengthOf (byte a 2) ≤ length b
-    → ((i : ℕ) → speaks (byte a 2) (byte a 39) i ≡ true → byte a i ≡ byte b i) → printedRide columns a recording ≡ printedRide columns b recording
-silent-print = print-silence
+-- 3a. Two areas with the same speaking bytes print the same text.
+abbrev pub SilentPrint : Printer → Type 0
+SilentPrint print = (columns : Columns) (a b recording : List ℕ) → SameSpeaking a b → print columns a recording ≡ print columns b recording
+
+-- 3b. So do accepted cards of version 1 and 2 with the same common settings and all four functions off.
+abbrev pub VersionsPrint : Printer → Type 0
+VersionsPrint print = (columns : Columns) (a b recording : List ℕ) (s t : Settings) → readCard a highest ≡ given s → readCard b highest ≡ given t
+    → SameWithout a b → print columns a recording ≡ print columns b recording
+
+-- the first n lines of a text: up to and with its n-th newline, or all of it
+unfoldable pub firstLines : List ℕ → ℕ → List ℕ
+firstLines [] n = []
+firstLines (b ∷ rest) zero = []
+firstLines (b ∷ rest) (suc n) = b ∷ firstLines rest (pick (eqb b newline) n (suc n))
+
+-- 3c. Two cards that differ only in later functions print the same lines: the heading, and those of the samples up to, and not including, the
+-- first accepted one at which a differing function speaks.
+abbrev pub FunctionsPrint : Printer → Type 0
+FunctionsPrint print = (columns : Columns) (a b recording : List ℕ) (s t : Settings) → readCard a highest ≡ given s → readCard b highest ≡ given t
+    → Same a b 3 39 → (let k = untilSpeaks s t (trainOf recording) (samplesOf recording) in
+    firstLines (print columns a recording) (suc k) ≡ firstLines (print columns b recording) (suc k))
+
+-- ---- the demand
+
+pub record Demand3 : Type 0 where
+  -- 3a. The same speaking bytes: the same reader reads both areas alike, as the same settings or refused the same; and the answers are the
+  -- same for every train type and every list of samples.
+  pub silent-bytes : (a b : List ℕ) (h : ℕ) → SameSpeaking a b
+      → (readCard b h ≡ readCard a h) × ((train : ℕ) (xs : List Sample) → rideOf b h train xs ≡ rideOf a h train xs)
+  -- 3b. Accepted cards of version 1 and 2 with the same common settings and all four functions off: the same answers for every train type and
+  -- every list of samples.
+  pub versions-silent : (a b : List ℕ) (h g : ℕ) (s t : Settings) → readCard a h ≡ given s → readCard b g ≡ given t → SameWithout a b
+      → (train : ℕ) (xs : List Sample) → rideOf a h train xs ≡ rideOf b g train xs
+  -- 3c. Two accepted cards that differ only in later functions and their settings (the same bytes 3 to 38): for every train type and every
+  -- list of samples the answers are the same up to, and not including, the first accepted sample at which a differing function speaks.
+  pub functions-silent : (a b : List ℕ) (h g : ℕ) (s t : Settings) → readCard a h ≡ given s → readCard b g ≡ given t → Same a b 3 39
+      → (train : ℕ) (xs : List Sample) → firstOf (untilSpeaks s t train xs) (rideOf a h train xs) ≡ firstOf (untilSpeaks s t train xs) (rideOf b g train xs)
+  -- 3d. "3 | card version above the reader's highest": a reader told to know version 1 refuses version 2 by name, and there is no more.
+  pub version-2-refused : (area : List ℕ) → 3 ≤ length area → byte area 2 ≡ 2
+      → (readCard area 1 ≡ refused 3) × ((train : ℕ) (xs : List Sample) → rideOf area 1 train xs ≡ refused 3)
+  -- and the same of the ride as it is printed
+  pub silent-print : SilentPrint printedRide
+  pub versions-print : VersionsPrint printedRide
+  pub functions-print : FunctionsPrint printedRide
+
+-- ---- its hypotheses are met, by realistic cards
+
+-- card R, version 2, and so many functions; with the reminder on, X 200 and Y 500
+abbrev pub R : ℕ → List ℕ
+R functions = card-R (functions ∷ 0x00 ∷ 0xC8 ∷ 0x01 ∷ 0xF4 ∷ [])
+
+-- with the reminder off; and the same with other silent bytes, and a whole reminder setting behind the record
+abbrev pub quiet-R : List ℕ
+quiet-R = card-R (0x0B ∷ 0x00 ∷ 0x00 ∷ 0x00 ∷ 0x00 ∷ [])
+
+abbrev pub noisy-R : List ℕ
+noisy-R = card-R (0x0B ∷ 0xFF ∷ 0xFF ∷ 0x17 ∷ 0x70 ∷ 0x0F ∷ 0x00 ∷ 0xC8 ∷ 0x01 ∷ 0xF4 ∷ [])
+
+pub record HypothesesMet : Type 0 where
+  pub same-speaking : SameSpeaking quiet-R noisy-R
+  pub reads-quiet : readCard quiet-R 2 ≡ given (settingsOf quiet-R)
+  -- card P, from before 2015, and its version 2 form
+  pub reads-1 : readCard card-P 1 ≡ given (settingsOf card-P)
+  pub reads-2 : readCard card-P2 2 ≡ given (settingsOf card-P2)
+  pub same-P : SameWithout card-P card-P2
+  -- card R with all functions, and with the reminder off
+  pub reads-R : readCard (R 0x0F) 2 ≡ given (settingsOf (R 0x0F))
+  pub same-R : Same (R 0x0F) quiet-R 3 39
+
+-- ---- and it is not met by a constant desk only
+
+-- with either card a ride of train type 6 is answered alike by `before`, sample for sample, until a differing function speaks at the next
+-- sample, which is answered by p with one card and by q with the other
+pub record Parting (a b : List ℕ) (xs : List Sample) (before : List Outcome) (p q : Outcome) : Type 0 where
+  pub speaks-at : untilSpeaks (settingsOf a) (settingsOf b) 6 xs ≡ length before
+  pub answers-a : rideOf a 2 6 xs ≡ given (before ++ (p ∷ []))
+  pub answers-b : rideOf b 2 6 xs ≡ given (before ++ (q ∷ []))
+  pub part : p ≡ q → ⊥
+
+-- for each of the four functions: two accepted cards that differ in it, a ride, and the very sample at which it speaks and the answers part
+pub record Partings : Type 0 where
+  -- bit 0: beacon 4 at standstill sets protected, which turns unprotected at once
+  pub crossing-parts :
+      Parting (R 0x0F) (R 0x0E) (conv 0 0 0 ∷ conv 0 4 0 ∷ []) (shows 14000 0 0 ∷ []) (answer 14000 0 0 2 false) (shows 14000 0 0)
+  -- bit 1: beacon 7 again, after 40 cm
+  pub zone-parts :
+      Parting (R 0x0F) (R 0x0D) (conv 20 7 0 ∷ conv 20 0 0 ∷ conv 20 7 0 ∷ []) (shows 5000 16 0 ∷ shows 5000 16 0 ∷ []) (shows 1000 0 0) (shows 5000 16 0)
+  -- bit 2: a beacon 8 passed under override, increased to 100 km/h, and 200 m on at 290 pulses a sample, which the 69th of them completes
+  pub reminder-parts :
+      Parting (R 0x0F) quiet-R (conv 0 0 128 ∷ conv 0 8 0 ∷ conv 0 0 256 ∷ times 69 (conv 290 0 0) [])
+      (shows 14000 128 0 ∷ shows 4000 256 0 ∷ shows 10000 0 0 ∷ repeated 68 (shows 10000 0 0) []) (shows 10000 128 0) (shows 10000 0 0)
+  -- bit 3: beacon 10 in BTS
+  pub bts-parts :
+      Parting (R 0x0F) (R 0x07) (bts 0 0 0 ∷ bts 0 10 0 ∷ []) (shows 10000 0 0 ∷ []) (answer 10000 64 0 0 true) (shows 10000 0 0)

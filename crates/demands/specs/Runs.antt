@@ -1,9 +1,7 @@
--- Document 01, "The sample": "The session is handed in and handed back with each sample's answer." A list of samples, and what a desk
--- answers to it.
+-- Document 01, "The sample": "The session is handed in and handed back with each sample's answer." What a desk answers to a card, a train
+-- type and a list of samples.
 use Prim.Native.Nat.{ℕ}
-use mathlib.Core.Bool.{Bool}
-use mathlib.Core.List.{List, [], _∷_}
-use lib.Dec.{eqb}
+use mathlib.Core.List.{List}
 use lib.ListN.{take}
 use Rattle.leaf.specs.Answers.{Answer, given, refused, refusedAt}
 use Rattle.card.specs.declared.Settings.{Settings}
@@ -11,21 +9,8 @@ use Rattle.card.specs.Reading.{readCard}
 use Rattle.session.specs.declared.Sample.{Sample}
 use Rattle.session.specs.declared.Session.{Session}
 use Rattle.session.specs.declared.Outcome.{Outcome}
-use Rattle.session.specs.declared.Sampled.{Sampled}
-use Rattle.session.specs.Session.{openSession, refusedBy, sampleOf}
-
--- the session after one sample, beside its answer or refusal
-abbrev pub after : Session → Sample → Sampled
-after s x = sampleOf s x
-
--- no refusal is due
-abbrev pub accepted : Session → Sample → Bool
-accepted s x = eqb (refusedBy s x) 0
-
--- what a list of samples is answered with, one after the other; a refused sample leaves the session as it was
-unfoldable pub outcomes : Session → List Sample → List Outcome
-outcomes s [] = []
-outcomes s (x ∷ xs) = after s x .outcome ∷ outcomes (after s x .session) xs
+use Rattle.session.specs.Session.{openSession}
+use Rattle.session.specs.Runs.{outcomes}
 
 -- what was opened, or not, is run
 abbrev pub runFrom : Answer Session → List Sample → Answer (List Outcome)

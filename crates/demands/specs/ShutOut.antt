@@ -1,66 +1,108 @@
 -- Document 01: "Shut out by name: a logic that refuses everything (demand 1); one that answers one speed for ever, returns the session
 -- untouched, or obeys the first sample and then repeats itself (demand 2); an invented place or printed sample number (demands 1 and 2)."
--- A logic is a function of a session and a sample; one that equals the definition, as the session's method does, is none of these.
+-- One that equals document 01's definitions, as our functions do, is none of these.
 use Prim.Native.Nat.{ℕ, suc}
-use mathlib.Core.Bool.{true}
-use mathlib.Core.List.{List, _++_}
+use mathlib.Core.Bool.{false}
+use mathlib.Core.List.{List, [], _∷_, _++_, map}
 use mathlib.Core.Path.{_≡_}
+use lib.Ieee.{Float}
 use Rattle.leaf.specs.Bytes.{byte}
 use Rattle.leaf.specs.Checks.{FirstFault}
-use Rattle.leaf.specs.Answers.{refusedAt}
+use Rattle.leaf.specs.Answers.{Answer, given, refusedAt, isGiven}
 use Rattle.card.specs.declared.Settings.{Settings}
 use Rattle.card.specs.Ranges.{checksOf}
 use Rattle.card.specs.Reading.{settingsOf, readCard}
 use Rattle.card.specs.Writing.{writeCard}
-use Rattle.card.proofs.Places.{read-place, write-place}
 use Rattle.tone.specs.Facts as sheet
-use Rattle.tone.specs.Tones.{readSheet}
-use Rattle.tone.proofs.FirstFault.{refused-first}
+use Rattle.tone.specs.Tones.{readSheet, classifyOf}
+use Rattle.step.specs.declared.Answer.{Answer as Told}
 use Rattle.session.specs.declared.Sample.{Sample}
 use Rattle.session.specs.declared.Session.{Session}
-use Rattle.step.specs.declared.Answer.{Answer}
+use Rattle.session.specs.declared.Sampled.{Sampled}
+use Rattle.session.specs.declared.Outcome.{Outcome}
+use Rattle.session.specs.declared.Outcome.the-variants.{Answered, Refused}
+use Rattle.session.specs.Session.{openSession, sampleOf}
 use Rattle.text.specs.Decimal.{line}
 use Rattle.rides.specs.declared.ride.Ride.{Ride}
-use Rattle.rides.specs.declared.ride.Shown.the-variants.{Answered}
-use Rattle.rides.specs.Ride.{rideAfter, turnAt}
+use Rattle.rides.specs.declared.ride.Shown.the-variants as shown
+use Rattle.rides.specs.Ride.{startRide, rideAfter, turnAt}
 use Rattle.printed.specs.declared.Columns.{Columns}
 use Rattle.printed.specs.Printed.{columnsOf, linesOf}
-use Rattle.printed.proofs.End.{answered-prints}
-use Rattle.laws.specs.NoToy.{Logic, Equals, isRefused, speedTold, not-refusing}
-use Rattle.laws.specs.NoToy as toy
+use Rattle.demands.specs.Runs.{runFrom}
 
--- "a logic that refuses everything"
-pub not-all-refused : (f : Logic) → Equals f → ((s : Session) (x : Sample) → isRefused (f s x .outcome) ≡ true) → ⊥
-not-all-refused = not-refusing
+-- ---- a logic
 
--- "one that answers one speed for ever"
-pub not-one-speed : (f : Logic) → Equals f → (speed : ℕ)
-    → ((s : Session) (x : Sample) → speedTold (f s x .outcome) ≡ speed) → ⊥
-not-one-speed = toy.not-one-speed
+-- whatever it remembers: what it answers to a list of samples, one after the other, from its opening on
+abbrev pub Logic : Type 0
+Logic = Settings → ℕ → List Sample → Answer (List Outcome)
 
--- "returns the session untouched"
-pub not-untouched : (f : Logic) → Equals f → ((s : Session) (x : Sample) → f s x .session ≡ s) → ⊥
-not-untouched = toy.not-untouched
+-- document 01's: a session is opened, and the samples are run
+abbrev pub document01 : Logic
+document01 s train xs = runFrom (openSession s train) xs
 
--- "obeys the first sample and then repeats itself"
-pub not-repeated : (f : Logic) → Equals f
-    → ((s : Session) (x y : Sample) → f (f s x .session) y .outcome ≡ f s x .outcome) → ⊥
-not-repeated = toy.not-repeating
+abbrev pub Equals : Logic → Type 0
+Equals f = (s : Settings) (train : ℕ) (xs : List Sample) → f s train xs ≡ document01 s train xs
 
--- "an invented place": a place given by the reader, the writer or the sheet is that of the first fault there is
-pub not-invented-read : (area : List ℕ) (highest n place : ℕ) → readCard area highest ≡ refusedAt n place
-    → (n ≡ 5) × FirstFault place (checksOf (byte area 2) (settingsOf area))
-not-invented-read = read-place
+-- the answers to accepted samples among its outcomes
+abbrev pub answersIn : List Outcome → List Told
+answersIn [] = []
+answersIn (Answered a ∷ rest) = a ∷ answersIn rest
+answersIn (Refused why ∷ rest) = answersIn rest
 
-pub not-invented-write : (version : ℕ) (s : Settings) (room n place : ℕ) → writeCard version s room ≡ refusedAt n place
-    → (n ≡ 5) × FirstFault place (checksOf version s)
-not-invented-write = write-place
+-- each of them is a
+abbrev pub All : {A : Type 0} → A → List A → Type 0
+All a [] = Unit
+All a (b ∷ rest) = (b ≡ a) × All a rest
 
-pub not-invented-sheet : (area : List ℕ) (n place : ℕ) → readSheet area ≡ refusedAt n place → (n ≡ 12) × sheet.FirstFault area place
-not-invented-sheet = refused-first
+-- ---- the kinds
 
--- "an invented .. printed sample number": the line of an answered sample stands behind those before it, numbered one more
-pub not-invented-number : (columns : Columns) (r : Ride) (recording : List ℕ) (k : ℕ) (a : Answer)
-    → turnAt (rideAfter r recording k) recording k .shown ≡ Answered a
-    → linesOf columns r recording (suc k) ≡ linesOf columns r recording k ++ line (suc k) (columnsOf columns a)
-not-invented-number = answered-prints
+-- "refuses everything": the opening, or each sample
+abbrev pub RefusesAll : Logic → Type 0
+RefusesAll f = (s : Settings) (train : ℕ) (xs : List Sample) (os : List Outcome) → f s train xs ≡ given os → answersIn os ≡ []
+
+-- "answers one speed for ever": one for each opening, whatever samples are accepted
+abbrev pub OneSpeed : Logic → Type 0
+OneSpeed f = (s : Settings) (train : ℕ)
+    → (speed : ℕ) × ((xs : List Sample) (os : List Outcome) → f s train xs ≡ given os → All speed (map (λ a. a .speed) (answersIn os)))
+
+-- "obeys the first sample and then repeats itself": every answer to a later accepted sample is the first one
+abbrev pub Repeated : List Told → Type 0
+Repeated [] = Unit
+Repeated (a ∷ rest) = All a rest
+
+abbrev pub Repeats : Logic → Type 0
+Repeats f = (s : Settings) (train : ℕ) (xs : List Sample) (os : List Outcome) → f s train xs ≡ given os → Repeated (answersIn os)
+
+-- a sample that is accepted is answered the same after any others: the logic forgets
+abbrev pub Forgets : Logic → Type 0
+Forgets f = (s : Settings) (train : ℕ) (x : Sample) (xs ys : List Sample) (os ps : List Outcome) (a b : Told)
+    → f s train (xs ++ x ∷ []) ≡ given (os ++ Answered a ∷ []) → f s train (ys ++ x ∷ []) ≡ given (ps ++ Answered b ∷ []) → a ≡ b
+
+-- "returns the session untouched": a logic of one sample, where it answers
+abbrev pub Untouched : (Session → Sample → Sampled) → Type 0
+Untouched f = (s : Session) (x : Sample) (a : Told) → f s x .outcome ≡ Answered a → f s x .session ≡ s
+
+-- ---- the statement
+
+pub record ShutOut : Type 0 where
+  pub not-all-refused : (f : Logic) → Equals f → RefusesAll f → ⊥
+  pub not-one-speed : (f : Logic) → Equals f → OneSpeed f → ⊥
+  pub not-untouched : (f : Session → Sample → Sampled) → ((s : Session) (x : Sample) → f s x ≡ sampleOf s x) → Untouched f → ⊥
+  pub not-repeated : (f : Logic) → Equals f → Repeats f → ⊥
+  pub not-forgetful : (f : Logic) → Equals f → Forgets f → ⊥
+  -- "refuses everything", of reader, writer, sheet, classifier, opening and recording too
+  pub some-card : ((area : List ℕ) (highest : ℕ) → isGiven (readCard area highest) ≡ false) → ⊥
+  pub some-write : ((version : ℕ) (s : Settings) (room : ℕ) → isGiven (writeCard version s room) ≡ false) → ⊥
+  pub some-sheet : ((area : List ℕ) → isGiven (readSheet area) ≡ false) → ⊥
+  pub some-tone : ((area : List ℕ) (tone : Float) → isGiven (classifyOf area tone) ≡ false) → ⊥
+  pub some-opening : ((s : Settings) (train : ℕ) → isGiven (openSession s train) ≡ false) → ⊥
+  pub some-recording : ((s : Settings) (recording : List ℕ) → isGiven (startRide s recording) ≡ false) → ⊥
+  -- "an invented place": a place given by the reader, the writer or the sheet is that of the first fault there is
+  pub not-invented-read : (area : List ℕ) (highest n place : ℕ) → readCard area highest ≡ refusedAt n place
+      → (n ≡ 5) × FirstFault place (checksOf (byte area 2) (settingsOf area))
+  pub not-invented-write : (version : ℕ) (s : Settings) (room n place : ℕ) → writeCard version s room ≡ refusedAt n place → (n ≡ 5) × FirstFault place (checksOf version s)
+  pub not-invented-sheet : (area : List ℕ) (n place : ℕ) → readSheet area ≡ refusedAt n place → (n ≡ 12) × sheet.FirstFault area place
+  -- "an invented .. printed sample number": the line of an answered sample stands behind those before it, numbered one more
+  pub not-invented-number : (columns : Columns) (r : Ride) (recording : List ℕ) (k : ℕ) (a : Told)
+      → turnAt (rideAfter r recording k) recording k .shown ≡ shown.Answered a
+      → linesOf columns r recording (suc k) ≡ linesOf columns r recording k ++ line (suc k) (columnsOf columns a)

@@ -7,17 +7,17 @@ use mathlib.Core.List.{List, [], _∷_}
 use lib.Dec.{eqb}
 use Rattle.leaf.specs.Choosing.{pick}
 use Rattle.card.specs.declared.Settings.{Settings}
+use Rattle.card.specs.Card.{protects, zones, reminds, readsInBts}
 use Rattle.signals.specs.Stop.{firstMet}
 use Rattle.desk.specs.declared.state.Desk.{Desk}
-use Rattle.desk.specs.Clock.{sameMode, deskOlder, begun}
-use Rattle.buttons.specs.Buttons.{pressesOf}
-use Rattle.beacons.specs.Beacons.{isSide, readsOf, zoneMet}
-use Rattle.step.specs.Step.{functionOn}
+use Rattle.desk.specs.Clock.{sameMode, deskOlder}
+use Rattle.beacons.specs.Beacons.{isSide, zoneMet}
 use Rattle.session.specs.declared.Sample.{Sample}
 use Rattle.session.specs.declared.Session.{Session}
 use Rattle.session.specs.Types.{typeSpeed}
-use Rattle.session.specs.Session.{inBts, freshSession}
-use Rattle.demands.specs.Runs.{after, accepted}
+use Rattle.session.specs.Session.{inBts, freshSession, carried, sampleOf}
+use Rattle.session.specs.Runs.{accepted}
+use Rattle.step_laws.specs.Walk.{atBeacon, readsAt}
 
 -- ---- where in the sample a rule is looked at
 
@@ -30,59 +30,68 @@ abbrev pub atReminders : Session → Sample → Desk
 atReminders s x = deskOlder (travelled s x) (s .desk)
 
 -- the desk after mode, ages, misses and buttons, where the beacon is looked at
-abbrev pub atBeacon : Session → Sample → Desk
-atBeacon s x =
-    pressesOf (x .buttons) (travelled s x) (s .settings .limit) (typeSpeed (s .train) * 100)
-    (begun (inBts (x .mode)) (travelled s x) (functionOn (s .settings) 4) (s .settings .x) (s .settings .y) (s .desk) .desk)
+abbrev pub beforeBeacon : Session → Sample → Desk
+beforeBeacon s x = atBeacon (s .settings) (typeSpeed (s .train) * 100) (carried s x) (s .desk)
 
--- ---- speaks
+-- ---- the later functions
 
--- "bit 0 carries beacon 3 or 4"
-abbrev pub speaks0 : Sample → Bool
-speaks0 x = eqb (x .beacon) 3 || eqb (x .beacon) 4
-
--- "bit 1 meets the stop-zone rule with the bit ignored": "beacon 7 read while row 4 is main and under 80 m from its reading"
-unfoldable pub speaks1 : Session → Sample → Bool
-speaks1 s x =
-    eqb (x .beacon) 7 && readsOf (x .beacon) (functionOn (s .settings) 8) (atBeacon s x .bts) (atBeacon s x .code) && zoneMet (atBeacon s x)
-
--- "bit 2 meets a stop's first reminder, the bit ignored"; in a sample that changes the mode nothing advances
-unfoldable pub speaks2 : Session → Sample → Bool
-speaks2 s x = sameMode (s .desk .bts) (inBts (x .mode)) && firstMet (atReminders s x .main) (atReminders s x .reminder)
-
--- "bit 3 carries 4, 9, 10 or 11 in BTS"
-abbrev pub speaks3 : Sample → Bool
-speaks3 x = inBts (x .mode) && isSide (x .beacon)
-
--- ---- differs
+-- a function that a later version added: when two cards' settings differ in it, and at which samples of a session it speaks
+pub record Later : Type 0 where
+  pub differs : Settings → Settings → Bool
+  pub speaks : Session → Sample → Bool
 
 abbrev pub same : Bool → Bool → Bool
 same true b = b
 same false b = not b
 
--- "A function differs by its bit": bit k has weight 2 to the k
-abbrev pub bitDiffers : Settings → Settings → ℕ → Bool
-bitDiffers s t weight = not (same (functionOn s weight) (functionOn t weight))
+-- "A function differs by its bit"
+abbrev pub bitDiffers : (ℕ → Bool) → Settings → Settings → Bool
+bitDiffers bit s t = not (same (bit (s .functions)) (bit (t .functions)))
+
+-- "bit 0 carries beacon 3 or 4"
+abbrev pub crossingFunction : Later
+crossingFunction = record { differs = bitDiffers protects; speaks = λ s x. eqb (x .beacon) 3 || eqb (x .beacon) 4 }
+
+-- "bit 1 meets the stop-zone rule with the bit ignored": "beacon 7 read while row 4 is main and under 80 m from its reading"
+unfoldable pub meetsZone : Session → Sample → Bool
+meetsZone s x = eqb (x .beacon) 7 && readsAt (s .settings) (carried s x) (beforeBeacon s x) && zoneMet (beforeBeacon s x)
+
+abbrev pub zoneFunction : Later
+zoneFunction = record { differs = bitDiffers zones; speaks = meetsZone }
+
+-- "bit 2 meets a stop's first reminder, the bit ignored"; in a sample that changes the mode nothing advances
+unfoldable pub meetsReminder : Session → Sample → Bool
+meetsReminder s x = sameMode (s .desk .bts) (inBts (x .mode)) && firstMet (atReminders s x .main) (atReminders s x .reminder)
 
 -- "bit 2 also by X or Y when on in both"
 abbrev pub reminderDiffers : Settings → Settings → Bool
 reminderDiffers s t =
-    bitDiffers s t 4 || functionOn s 4 && functionOn t 4 && not (eqb (s .x) (t .x) && eqb (s .y) (t .y))
+    bitDiffers reminds s t || reminds (s .functions) && reminds (t .functions) && not (eqb (s .x) (t .x) && eqb (s .y) (t .y))
+
+abbrev pub reminderFunction : Later
+reminderFunction = record { differs = reminderDiffers; speaks = meetsReminder }
+
+-- "bit 3 carries 4, 9, 10 or 11 in BTS"
+abbrev pub btsFunction : Later
+btsFunction = record { differs = bitDiffers readsInBts; speaks = λ s x. inBts (x .mode) && isSide (x .beacon) }
+
+abbrev pub laterFunctions : List Later
+laterFunctions = crossingFunction ∷ zoneFunction ∷ reminderFunction ∷ btsFunction ∷ []
 
 -- ---- a differing function speaks
 
--- at this sample of the session, beside a card of settings t
+-- one of these differs, and speaks at this sample of the session, beside a card of settings t
+abbrev pub someSpeaks : List Later → Session → Settings → Sample → Bool
+someSpeaks [] s t x = false
+someSpeaks (f ∷ rest) s t x = f .differs (s .settings) t && f .speaks s x || someSpeaks rest s t x
+
 unfoldable pub differingSpeaks : Session → Settings → Sample → Bool
-differingSpeaks s t x =
-    bitDiffers (s .settings) t 1 && speaks0 x
-    || bitDiffers (s .settings) t 2 && speaks1 s x
-    || reminderDiffers (s .settings) t && speaks2 s x
-    || bitDiffers (s .settings) t 8 && speaks3 x
+differingSpeaks s t x = someSpeaks laterFunctions s t x
 
 -- how many samples there are up to, and not including, the first accepted one at which a differing function speaks
 unfoldable pub silentFor : Session → Settings → List Sample → ℕ
 silentFor s t [] = 0
-silentFor s t (x ∷ xs) = pick (accepted s x && differingSpeaks s t x) 0 (suc (silentFor (after s x .session) t xs))
+silentFor s t (x ∷ xs) = pick (accepted s x && differingSpeaks s t x) 0 (suc (silentFor (sampleOf s x .session) t xs))
 
 -- the same of a ride on settings s beside settings t, from its opening
 abbrev pub untilSpeaks : Settings → Settings → ℕ → List Sample → ℕ

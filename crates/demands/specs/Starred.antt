@@ -3,11 +3,10 @@
 use Prim.Native.Nat.{ℕ}
 use mathlib.Core.Bool.{true, false}
 use mathlib.Core.List.{List, [], _∷_, _++_}
-use mathlib.Core.Path.{refl}
 use Rattle.leaf.specs.Answers.{Answer, given}
 use Rattle.card.specs.declared.Row.{Row}
 use Rattle.card.specs.Lines.{Line, line, Holds}
-use Rattle.card.proofs.Examples.{cardA, cardLines}
+use Rattle.card.specs.CardA.{cardA, cardLines}
 use Rattle.curve.specs.Curve.{rowSpeed}
 use Rattle.signals.specs.MainControl.{mainOf}
 use Rattle.signals.specs.declared.control.MainKind.the-variants.{BeforeStop}
@@ -15,10 +14,9 @@ use Rattle.desk.specs.State.{withMain, freshDesk}
 use Rattle.session.specs.declared.Sample.{Sample}
 use Rattle.session.specs.declared.Session.{Session}
 use Rattle.session.specs.declared.Outcome.{Outcome}
-use Rattle.session.specs.Session.{openSession}
-use Rattle.demands.specs.Runs.{after, runFrom}
-use Rattle.demands.specs.Rides.{conv, times, endOf, answer, shows, cardA-with}
-use Rattle.demands.specs.Computes.{definitions}
+use Rattle.session.specs.Session.{openSession, sampleOf}
+use Rattle.demands.specs.Runs.{runFrom}
+use Rattle.demands.specs.Examples.{conv, times, endOf, answer, shows, cardA-with}
 
 -- "* Row 4 of card A: age 20 gives 8000; 21 gives 7980; 220 gives 4000."
 abbrev rowLines : List Line
@@ -56,8 +54,8 @@ near distance = record { settings = cardA-with 100 2 (cardA .limit); train = 6; 
 
 abbrev zoneLines : List Line
 zoneLines =
-    line Outcome (after (near 797999) (conv 20 7 0) .outcome) (shows 1000 0 0)
-    ∷ line Outcome (after (near 798000) (conv 20 7 0) .outcome) (shows 8000 16 0)
+    line Outcome (sampleOf (near 797999) (conv 20 7 0) .outcome) (shows 1000 0 0)
+    ∷ line Outcome (sampleOf (near 798000) (conv 20 7 0) .outcome) (shows 8000 16 0)
     ∷ []
 
 -- "* Increase: type 2 gives 90, type 6 gives 100." Override, beacon 8, increase.
@@ -84,6 +82,5 @@ abbrev pub starredLines : List Line
 starredLines =
     rowLines ++ brakeLines ++ pressLines ++ crossingLines ++ zoneLines ++ increaseLines ++ limitLines ++ cardLines
 
-pub starred : Holds starredLines
-unfolding definitions
-starred = (refl, (refl, (refl, (refl, (refl, (refl, (refl, (refl, (refl, (refl, (refl, (refl, (refl, (refl, (refl, (refl, (refl, tt)))))))))))))))))
+abbrev pub Starred : Type 0
+Starred = Holds starredLines

@@ -1,12 +1,4 @@
 pub mod Ranges
-pub mod OutOfRange
-pub mod Parts
-pub mod Walk
-pub mod KeepsRanges
-pub mod Causes
+pub mod Refusals
 pub mod Inside
-pub mod Windows
-pub mod Once
-pub mod Speed
-pub mod Brake
-pub mod NoToy
+pub mod Unanswered

@@ -1,1 +1,1 @@
-// Theorems about the session's definitions, in specs/: no code.
+// Laws of every session: no code. Statements and definitions are in specs/, proofs in proofs/.

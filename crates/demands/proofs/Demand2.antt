@@ -1,0 +1,21 @@
+-- Demand 2 holds.
+use mathlib.Core.Path.{_≡_, refl}
+use Rattle.card.proofs.Accepted.{accepted-when, accepted-only}
+use Rattle.card.proofs.RoundTrip.{round-trip}
+use Rattle.session.specs.Session.{ranOf}
+use Rattle.session.proofs.Opening.{opening-fresh}
+use Rattle.laws.proofs.Ranges.{inside-only}
+use Rattle.laws.proofs.Refusals.{refusal-laws}
+use Rattle.laws.proofs.Inside.{inside-laws}
+use Rattle.demands.specs.Demand2.{Demand2}
+
+pub demand-2 : Demand2
+unfolding ranOf
+demand-2 =
+    record {
+      opened = λ s train u h. (opening-fresh s train u h, inside-only u (inside-laws .opened-inside s train u h));
+      always-inside = λ s train u xs h. inside-only _ (inside-laws .always-inside s train u xs h);
+      answered = λ s x m. refusal-laws s x .accepted-as (refusal-laws s x .accepted .1 m);
+      card-accepted = λ area highest s. (accepted-only area highest s, λ m. rw (m .1) (accepted-when area highest (m .0)));
+      reads-back = round-trip;
+    }

@@ -1,0 +1,84 @@
+-- The later functions, however many there are: settings with those of another card; samples at which none both differs and speaks; desks
+-- on which none that differs has been looked at.
+use Prim.Native.Nat.{ℕ}
+use native.Mathlib.Omega.{arith}
+use mathlib.Core.Bool.{Bool, true, false, _&&_, _||_}
+use mathlib.Core.Path.{_≡_, refl}
+use mathlib.Core.List.{List, [], _∷_, map}
+use Rattle.card.specs.declared.Settings.{Settings}
+use Rattle.desk.specs.declared.state.Desk.{Desk}
+use Rattle.desk.specs.State.{freshDesk}
+use Rattle.session.specs.declared.Sample.{Sample}
+use Rattle.session.specs.declared.Session.{Session}
+use Rattle.session.specs.Session.{carried, ranOf}
+use Rattle.demands.specs.Speaks.{Later, someSpeaks}
+
+-- settings with the later functions, and their settings, of others
+abbrev pub later : Settings → Settings → Settings
+later s t =
+    record {
+      vmax = s .vmax;
+      tick = s .tick;
+      bts = s .bts;
+      «conditional_clear» = s .«conditional_clear»;
+      announcement = s .announcement;
+      preannouncement = s .preannouncement;
+      caution = s .caution;
+      «before_stop» = s .«before_stop»;
+      crossing = s .crossing;
+      limit = s .limit;
+      start = s .start;
+      functions = t .functions;
+      x = t .x;
+      y = t .y;
+    }
+
+-- ---- a sample at which no function both differs and speaks
+
+abbrev pub Silent : Later → Session → Settings → Sample → Type 0
+Silent f s t x = (f .differs (s .settings) t && f .speaks s x) ≡ false
+
+abbrev pub AllSilent : List Later → Session → Settings → Sample → Type 0
+AllSilent [] s t x = Unit
+AllSilent (f ∷ rest) s t x = Silent f s t x × AllSilent rest s t x
+
+pub or-false : (a b : Bool) → (a || b) ≡ false → (a ≡ false) × (b ≡ false)
+or-false true b h = absurd (let z : _≡_ {A = ℕ} 0 1 = cc in omega arith)
+or-false false b h = (refl, h)
+
+pub all-silent : (fs : List Later) (s : Session) (t : Settings) (x : Sample) → someSpeaks fs s t x ≡ false → AllSilent fs s t x
+all-silent [] s t x h = tt
+all-silent (f ∷ rest) s t x h =
+    let p = or-false (f .differs (s .settings) t && f .speaks s x) (someSpeaks rest s t x) h in
+    (p .0, all-silent rest s t x (p .1))
+
+-- ---- a desk on which no function that differs has been looked at
+
+-- a function, with the desks on which its settings have not been looked at: a fresh one is, and is so until the function speaks
+pub record Entry : Type 0 where
+  pub function : Later
+  pub quiet : Desk → Bool
+  pub fresh : quiet freshDesk ≡ true
+  pub stays : (s : Session) (t : Settings) (x : Sample) → function .differs (s .settings) t ≡ true → quiet (s .desk) ≡ true
+      → function .speaks s x ≡ false → quiet (ranOf (carried s x) s .session .desk) ≡ true
+
+-- one that is looked at only where it speaks, and leaves nothing that is looked at later
+abbrev pub momentary : Later → Entry
+momentary f = record { function = f; quiet = λ d. true; fresh = refl; stays = λ s t x o q h. refl }
+
+abbrev pub functionsIn : List Entry → List Later
+functionsIn [] = []
+functionsIn (e ∷ rest) = e .function ∷ functionsIn rest
+
+abbrev pub AllQuiet : List Entry → Settings → Settings → Desk → Type 0
+AllQuiet [] s t d = Unit
+AllQuiet (e ∷ rest) s t d = (e .function .differs s t ≡ true → e .quiet d ≡ true) × AllQuiet rest s t d
+
+pub all-fresh : (es : List Entry) (s t : Settings) → AllQuiet es s t freshDesk
+all-fresh [] s t = tt
+all-fresh (e ∷ rest) s t = (λ o. e .fresh, all-fresh rest s t)
+
+pub all-stay : (es : List Entry) (s : Session) (t : Settings) (x : Sample) → AllQuiet es (s .settings) t (s .desk) → AllSilent (functionsIn es) s t x
+    → AllQuiet es (s .settings) t (ranOf (carried s x) s .session .desk)
+all-stay [] s t x quiet silent = tt
+all-stay (e ∷ rest) s t x quiet silent = (λ o. e .stays s t x o (quiet .0 o) (rw o at (silent .0)), all-stay rest s t x (quiet .1) (silent .1))

@@ -1,0 +1,15 @@
+pub mod Computes
+pub mod Demand1
+pub mod Demand2
+pub mod Later
+pub mod Kept
+pub mod Apart
+pub mod Alike
+pub mod Cards
+pub mod Lines
+pub mod Prints
+pub mod Demand3
+pub mod ShutOut
+pub mod Lazy
+pub mod Starred
+pub mod LazyPrints

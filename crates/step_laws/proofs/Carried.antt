@@ -1,0 +1,92 @@
+-- What a sample carries through its steps: the mode from the mode's step on, the code up to the beacon's, the brake up to its own.
+use Prim.Native.Nat.{ℕ}
+use mathlib.Core.Path.{_≡_, refl, sym}
+use mathlib.Core.Bool.{Bool, true, false}
+use Rattle.card.specs.declared.Settings.{Settings}
+use Rattle.desk.specs.declared.state.Desk.{Desk}
+use Rattle.desk.specs.State.{takenOver, crossingSet, limitNow, modeChanged}
+use Rattle.desk.specs.Clock.{sameMode, deskOlder, reminded}
+use Rattle.buttons.specs.Buttons.{optionUsed, limitRemoved, reminderAnswered, overrideArmed, stopIncreased, limitStepped, hidePressed}
+use Rattle.beacons.specs.Beacons.{mainOpened, sideOpened, optionOffered, reading4, stopped}
+use Rattle.step.specs.declared.Input.{Input}
+use Rattle.step.specs.Speed.{crossingTurned}
+use Rattle.step.specs.Brake.{braked}
+use Rattle.step.specs.Step.{movedOf, judgedOf, stepOf}
+use Rattle.step_laws.specs.Walk.{atBeacon, Sets, ToBeacon, OfBeacon, CarriedLaws}
+use Rattle.step_laws.proofs.Walk.{AnyReading, at-beacon, after-beacon}
+
+pub same-is : (a b : Bool) → sameMode a b ≡ true → a ≡ b
+same-is true true h = refl
+same-is true false h = sym h
+same-is false true h = h
+same-is false false h = refl
+
+pub same-mode : (a b : Bool) → a ≡ b → sameMode a b ≡ true
+same-mode true b e = rw (← e)
+same-mode false b e = rw (← e)
+
+module _ (s : Settings) (top : ℕ) (x : Input) (d : Desk) where
+  -- the sample's mode, this code, and the brake as it was
+  abbrev Carries : ℕ → Desk → Type 0
+  Carries code e = (e .bts ≡ x .bts) × (e .code ≡ code) × (e .brake ≡ d .brake)
+
+  sets-carry : (code : ℕ) → Sets (Carries code) AnyReading
+  unfolding takenOver crossingSet limitNow
+  sets-carry code =
+      record {
+        now = tt;
+        main-reading = λ e h. tt;
+        side-reading = λ e h. tt;
+        taken = λ kind age distance e r h. h;
+        crossing = λ age distance e r h. h;
+        limit = λ age distance e r h. h;
+      }
+
+  to-beacon-carry : ToBeacon s top x d (Carries (d .code))
+  unfolding modeChanged deskOlder reminded optionUsed limitRemoved reminderAnswered overrideArmed stopIncreased limitStepped hidePressed
+  to-beacon-carry =
+      record {
+        changed = λ e. (refl, refl, refl);
+        advanced = λ e. (same-is (d .bts) (x .bts) e, refl, refl);
+        main-closed = λ e left o h n. n;
+        side-closed = λ e left o h n. n;
+        option = λ e h. h;
+        removed = λ e h. h;
+        answered = λ e h. h;
+        armed = λ e h. h;
+        increased = λ e h. h;
+        stepped = λ e h. h;
+        hidden = λ e h. h;
+      }
+
+  of-beacon-carry : OfBeacon s top x d (Carries (x .beacon)) (Carries (x .beacon))
+  unfolding mainOpened sideOpened stopped reading4 optionOffered
+  of-beacon-carry =
+      record {
+        unread = λ e h. h;
+        main-opened = λ w e o h. h;
+        side-opened = λ w e o h. h;
+        zone-opened = λ e r c z h. h;
+        shut = λ e r c h. h;
+        stop = λ e r c h. h;
+        protected = λ e h. h;
+        offered = λ e h. h;
+      }
+
+  at-carries : Carries (d .code) (atBeacon s top x d)
+  at-carries = at-beacon (sets-carry (d .code)) to-beacon-carry
+
+  moved-carries : Carries (x .beacon) (movedOf s top x d .desk)
+  moved-carries = let h = at-carries in after-beacon (sets-carry (x .beacon)) of-beacon-carry (h .0, refl, h .2)
+
+  mode-after : stepOf s top x d .desk .bts ≡ x .bts
+  unfolding stepOf judgedOf crossingTurned braked
+  mode-after = moved-carries .0
+
+  code-after : stepOf s top x d .desk .code ≡ x .beacon
+  unfolding stepOf judgedOf crossingTurned braked
+  code-after = moved-carries .1
+
+  pub carried-laws : CarriedLaws s top x d
+  carried-laws =
+      record { at-mode = at-carries .0; at-code = at-carries .1; mode-after = mode-after; code-after = code-after; to-brake = moved-carries .2 }

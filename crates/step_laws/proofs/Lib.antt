@@ -1,0 +1,13 @@
+pub mod Choosing
+pub mod Walk
+pub mod Facts
+pub mod Parts
+pub mod Carried
+pub mod Causes
+pub mod Ranges
+pub mod Windows
+pub mod Presses
+pub mod Unanswered
+pub mod Missed
+pub mod Speed
+pub mod Brake

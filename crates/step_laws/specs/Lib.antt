@@ -1,0 +1,6 @@
+pub mod Ranges
+pub mod Walk
+pub mod Windows
+pub mod Unanswered
+pub mod Speed
+pub mod Brake

@@ -1,0 +1,90 @@
+-- Document 01, "The sample": "Ages count samples from the sample that starts them (age 0) and stop at 30,000; distances stop at 60,000,000.
+-- These, steps 0..8, mode, cause, code .. in range, .., are the session's ranges": those of the desk in plain facts, `≤` on each number; and
+-- that what a sample makes of a desk inside them is inside.
+use Prim.Native.Nat.{ℕ, _≤_}
+use mathlib.Core.Path.{_≡_}
+use mathlib.Core.Bool.{true}
+use mathlib.Core.Logic.{_↔_}
+use Rattle.leaf.specs.Numbers.{ageTop, distanceTop, codeTop, causeTop}
+use Rattle.card.specs.declared.Settings.{Settings}
+use Rattle.signals.specs.declared.window.Window.{Window}
+use Rattle.signals.specs.declared.control.Main.{Main}
+use Rattle.signals.specs.declared.stop.Alongside.{Alongside}
+use Rattle.signals.specs.declared.stop.Override.{Override}
+use Rattle.signals.specs.declared.stop.Reminder.{Reminder}
+use Rattle.sides.specs.declared.crossing.Crossing.{Crossing}
+use Rattle.sides.specs.declared.crossing.CrossingOption.{CrossingOption}
+use Rattle.sides.specs.declared.limit.Limit.{Limit}
+use Rattle.sides.specs.Limit.{stepsTop}
+use Rattle.desk.specs.declared.brake.Brake.{Brake}
+use Rattle.desk.specs.declared.beside.Beside.{Beside}
+use Rattle.desk.specs.declared.state.Desk.{Desk}
+use Rattle.desk.specs.State.{freshDesk}
+use Rattle.desk.specs.Ranges.{deskInside}
+use Rattle.step.specs.declared.Input.{Input}
+use Rattle.step.specs.Step.{stepOf}
+
+-- ---- the facts
+
+pub record BrakeIn (b : Brake) : Type 0 where
+  pub cause : b .cause ≤ causeTop
+
+pub record MainIn (c : Main) : Type 0 where
+  pub age : c .age ≤ ageTop
+  pub distance : c .distance ≤ distanceTop
+
+-- the time to a miss is a count of samples
+pub record WindowIn (w : Window) : Type 0 where
+  pub left : w .left ≤ ageTop
+  pub age : w .age ≤ ageTop
+  pub distance : w .distance ≤ distanceTop
+
+pub record OverrideIn (o : Override) : Type 0 where
+  pub age : o .age ≤ ageTop
+
+pub record ReminderIn (r : Reminder) : Type 0 where
+  pub age : r .age ≤ ageTop
+  pub fast : r .fast ≤ ageTop
+  pub distance : r .distance ≤ distanceTop
+
+pub record OptionIn (o : CrossingOption) : Type 0 where
+  pub age : o .age ≤ ageTop
+  pub distance : o .distance ≤ distanceTop
+
+pub record AlongsideIn (a : Alongside) : Type 0 where
+  pub age : a .age ≤ ageTop
+
+pub record CrossingIn (c : Crossing) : Type 0 where
+  pub age : c .age ≤ ageTop
+  pub distance : c .distance ≤ distanceTop
+
+-- "steps 0..8"
+pub record LimitIn (l : Limit) : Type 0 where
+  pub age : l .age ≤ ageTop
+  pub steps : l .steps ≤ stepsTop
+
+pub record BesideIn (b : Beside) : Type 0 where
+  pub alongside : AlongsideIn (b .alongside)
+  pub crossing : CrossingIn (b .crossing)
+  pub limit : LimitIn (b .limit)
+
+pub record DeskIn (d : Desk) : Type 0 where
+  pub code : d .code ≤ codeTop
+  pub brake : BrakeIn (d .brake)
+  pub main : MainIn (d .main)
+  pub window : WindowIn (d .window)
+  pub side : WindowIn (d .side)
+  pub armed : OverrideIn (d .armed)
+  pub reminder : ReminderIn (d .reminder)
+  pub option : OptionIn (d .option)
+  pub beside : BesideIn (d .beside)
+
+-- ---- the laws
+
+pub record RangeLaws : Type 0 where
+  -- a desk is inside exactly when the facts hold
+  pub desk-inside : (d : Desk) → (deskInside d ≡ true) ↔ DeskIn d
+  -- a desk as it opens is inside
+  pub fresh-in : DeskIn freshDesk
+  -- what a sample makes of a desk inside is inside, whatever the settings and T are, where the sample's code is in range
+  pub step-in : (s : Settings) (top : ℕ) (x : Input) (d : Desk) → x .beacon ≤ codeTop → DeskIn d → DeskIn (stepOf s top x d .desk)
