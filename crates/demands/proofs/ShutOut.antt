@@ -21,11 +21,11 @@ use Rattle.session.specs.declared.Outcome.{Outcome}
 use Rattle.session.specs.Session.{freshSession, openSession, sampleOf}
 use Rattle.rides.specs.Recording.{goodRecording}
 use Rattle.rides.specs.Ride.{startRide}
-use Rattle.printed.proofs.End.{answered-prints}
 use Rattle.printed.proofs.Examples.{ride-A}
 use Rattle.demands.specs.Examples.{conv, shows, card-P}
 use Rattle.demands.specs.ShutOut.{Logic, document01, Equals, RefusesAll, OneSpeed, Repeats, Forgets, Untouched, ShutOut}
 use Rattle.demands.proofs.Computes.{definitions}
+use Rattle.demands.proofs.Lines.{numbered}
 
 -- ---- three samples of card A, train type 6: standstill; beacon 7 at 108 km/h, over S; standstill again
 
@@ -129,5 +129,5 @@ shut-out =
       not-invented-read = read-place;
       not-invented-write = write-place;
       not-invented-sheet = refused-first;
-      not-invented-number = answered-prints;
+      not-invented-number = numbered;
     }

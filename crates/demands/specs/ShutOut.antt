@@ -5,6 +5,7 @@ use Prim.Native.Nat.{ℕ, suc}
 use mathlib.Core.Bool.{false}
 use mathlib.Core.List.{List, [], _∷_, _++_, map}
 use mathlib.Core.Path.{_≡_}
+use lib.ListN.{length}
 use lib.Ieee.{Float}
 use Rattle.leaf.specs.Bytes.{byte}
 use Rattle.leaf.specs.Checks.{FirstFault}
@@ -23,11 +24,10 @@ use Rattle.session.specs.declared.Outcome.{Outcome}
 use Rattle.session.specs.declared.Outcome.the-variants.{Answered, Refused}
 use Rattle.session.specs.Session.{openSession, sampleOf}
 use Rattle.text.specs.Decimal.{line}
-use Rattle.rides.specs.declared.ride.Ride.{Ride}
-use Rattle.rides.specs.declared.ride.Shown.the-variants as shown
-use Rattle.rides.specs.Ride.{startRide, rideAfter, turnAt}
+use Rattle.rides.specs.Ride.{startRide}
 use Rattle.printed.specs.declared.Columns.{Columns}
-use Rattle.printed.specs.Printed.{columnsOf, linesOf}
+use Rattle.printed.specs.Printed.{columnsOf, highest, printedRide, rideOn}
+use Rattle.demands.specs.Demand3.{firstLines}
 use Rattle.demands.specs.Runs.{runFrom}
 
 -- ---- a logic
@@ -102,7 +102,9 @@ pub record ShutOut : Type 0 where
       → (n ≡ 5) × FirstFault place (checksOf (byte area 2) (settingsOf area))
   pub not-invented-write : (version : ℕ) (s : Settings) (room n place : ℕ) → writeCard version s room ≡ refusedAt n place → (n ≡ 5) × FirstFault place (checksOf version s)
   pub not-invented-sheet : (area : List ℕ) (n place : ℕ) → readSheet area ≡ refusedAt n place → (n ≡ 12) × sheet.FirstFault area place
-  -- "an invented .. printed sample number": the line of an answered sample stands behind those before it, numbered one more
-  pub not-invented-number : (columns : Columns) (r : Ride) (recording : List ℕ) (k : ℕ) (a : Told)
-      → turnAt (rideAfter r recording k) recording k .shown ≡ shown.Answered a
-      → linesOf columns r recording (suc k) ≡ linesOf columns r recording k ++ line (suc k) (columnsOf columns a)
+  -- "an invented .. printed sample number": where the ride on a card answers a to its k-th sample, the line below the first k, the heading
+  -- among them, is that answer's, numbered k
+  pub not-invented-number : (columns : Columns) (card recording : List ℕ) (before rest : List (Answer Told)) (a : Told)
+      → rideOn (readCard card highest) recording ≡ given (before ++ given a ∷ rest)
+      → (let k = suc (length before) in
+      firstLines (printedRide columns card recording) (suc k) ≡ firstLines (printedRide columns card recording) k ++ line k (columnsOf columns a))
