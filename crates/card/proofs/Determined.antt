@@ -3,9 +3,10 @@ use Prim.Native.Nat.{ℕ}
 use mathlib.Core.Path.{_≡_, refl, sym, _∙_}
 use mathlib.Core.List.{List}
 use lib.ListN.{length}
+use Rattle.leaf.specs.Answers.{Answer}
 use Rattle.leaf.specs.declared.Refusal.the-variants.{Number, At}
-use Rattle.card.specs.Ranges.{checkedOf, checkSettings}
-use Rattle.card.specs.Reading.{paperOf, readCard}
+use Rattle.card.specs.Ranges.{checkedOf}
+use Rattle.card.specs.Reading.{paperOf}
 use Rattle.card.specs.Writing.{writtenOf, writeCard, leaves}
 use Rattle.card.specs.declared.Settings.{Settings}
 use Rattle.card.specs.declared.Checked.{Checked}
@@ -45,16 +46,22 @@ checked-one InRange (FaultAt q) h = cc
 checked-one (FaultAt p) InRange h = cc
 checked-one (FaultAt p) (FaultAt q) h = cc
 
--- ---- the promises
+-- ---- the promises, whatever answer they name
 
-pub read-determined : (area : List ℕ) (h : ℕ) (a b : Reading) → paperOf a ≡ readCard area h → paperOf b ≡ readCard area h → a ≡ b
-read-determined area h a b pa pb = paper-one a b (pa ∙ sym pb)
+-- the reader, and the reading by a number
+pub read-determined : (x : Answer Settings) (a b : Reading) → paperOf a ≡ x → paperOf b ≡ x → a ≡ b
+read-determined x a b pa pb = paper-one a b (pa ∙ sym pb)
 
-pub check-determined : (v : ℕ) (s : Settings) (a b : Checked) → checkedOf a ≡ checkSettings v s → checkedOf b ≡ checkSettings v s → a ≡ b
-check-determined v s a b pa pb = checked-one a b (pa ∙ sym pb)
+-- the check, on this card and on a card of any kind
+pub check-determined : (x : Answer Unit) (a b : Checked) → checkedOf a ≡ x → checkedOf b ≡ x → a ≡ b
+check-determined x a b pa pb = checked-one a b (pa ∙ sym pb)
+
+-- the writer's answer by a number
+pub answer-determined : (x : Answer Unit) (a b : Written) → writtenOf a ≡ x → writtenOf b ≡ x → a ≡ b
+answer-determined x a b pa pb = written-one a b (pa ∙ sym pb)
 
 -- the writer's answer, and every byte of the buffer after it
 pub write-determined : (v : ℕ) (s : Settings) (buffer after after′ : List ℕ) (a b : Written) → writtenOf a ≡ writeCard v s (length buffer)
     → after ≡ leaves (writtenOf a) v s buffer → writtenOf b ≡ writeCard v s (length buffer) → after′ ≡ leaves (writtenOf b) v s buffer
     → (a ≡ b) × (after ≡ after′)
-write-determined v s buffer after after′ a b pa la pb lb = (written-one a b (pa ∙ sym pb), rw (la, lb, pa, pb))
+write-determined v s buffer after after′ a b pa la pb lb = (answer-determined _ a b pa pb, rw (la, lb, pa, pb))

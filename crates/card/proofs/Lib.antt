@@ -1,5 +1,9 @@
+pub mod Listed
 pub mod InRange
+pub mod Area
+pub mod Exactly
 pub mod Accepted
+pub mod ShutOut
 pub mod Places
 pub mod Determined
 pub mod Buffer

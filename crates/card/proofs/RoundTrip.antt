@@ -8,19 +8,20 @@ use mathlib.Core.Logic.{_⊎_, ⊎-elim}
 use mathlib.Core.List.{List, _++_}
 use lib.Dec.{lit≤}
 use lib.ListN.{length, drop}
-use borrow.Author.Tests.{le-leb, eq-eqb, ne-eqb}
 use Rattle.leaf.specs.Bytes.{byte, word}
 use Rattle.leaf.specs.Answers.{given}
 use Rattle.card.specs.Card.{lengthOf, reminds, rowAt}
 use Rattle.card.specs.Reading.{kept, functionsFrom, settingsFrom, settingsOf, readCard, paperOf}
 use Rattle.card.specs.Writing.{bytesOf, recordOf, writeCard, written, writtenOf, leaves}
-use Rattle.card.specs.Plain.{SettingsMet, WriteMet}
+use Rattle.card.specs.Plain.{Functions, X, Y, SettingsMet, Known, HeaderMet, accepted, WriteMet}
 use Rattle.card.specs.declared.Settings.{Settings}
 use Rattle.card.specs.declared.Reading.{Reading}
 use Rattle.card.specs.declared.Reading.the-variants.{Read}
 use Rattle.card.specs.declared.Written.{Written}
-use Rattle.card.proofs.InRange.{met-within, met-fault, reminder-zero}
-use Rattle.card.proofs.Accepted.{version-cases, checks-read, written-when}
+use Rattle.card.proofs.InRange.{reminder-zero}
+use Rattle.card.proofs.Area.{version-cases, length-is}
+use Rattle.card.proofs.Exactly.{card-met, read-exactly}
+use Rattle.card.proofs.Accepted.{written-when}
 use Rattle.card.proofs.Determined.{paper-one}
 
 -- a number's two bytes make the number again
@@ -39,29 +40,23 @@ rebuilt s t f x y pt pf px py = rw (pt, pf, px, py)
 
 module _ (s : Settings) (rest : List ℕ) where
   -- an area that has a version's header and room reads as its settings, where they are in range
-  reads : (v h : ℕ) (area : List ℕ) → 1 ≤ v → v ≤ h → h ≤ 2 → byte area 2 ≡ v → word area 0 ≡ lengthOf v → 39 ≤ lengthOf v
-      → lengthOf v ≤ length area → settingsOf area ≡ s → SettingsMet v s → readCard area h ≡ given s
-  reads v h area low known high version stated long fits same m =
-      checks-read area h (
-        met-within (omega arith) high,
-        (
-          le-leb 3 (length area) (omega arith),
-          (
-            rw (version, ne-eqb v 0 (λ e. omega arith)),
-            (
-              rw version (le-leb v h known),
-              (rw version (eq-eqb _ _ stated), (rw version (le-leb _ _ fits), (rw (same, version) (eq-eqb _ _ (met-fault v s m)), tt))),
-            ),
-          ),
-        ),
-      ) ∙ ap given same
+  reads : (v h : ℕ) (area : List ℕ) → Known v → v ≤ h → h ≤ 2 → byte area 2 ≡ v → word area 0 ≡ lengthOf v → lengthOf v ≤ length area
+      → settingsOf area ≡ s → SettingsMet v s → readCard area h ≡ given s
+  reads v h area low known high version stated fits same m =
+      let header : HeaderMet area h =
+      record {
+        known = (omega (arith, low .0), high);
+        version = rw version (low .0, known);
+        stated = rw (version, stated) (length-is v);
+        whole = rw stated fits;
+      } in
+      read-exactly area h _ .1 (accepted (card-met area h header (rw (same, version) m))) ∙ ap given same
 
   settings-back-1 : SettingsMet 1 s → settingsOf (recordOf 1 s ++ rest) ≡ s
   unfolding settingsFrom recordOf bytesOf byte word rowAt functionsFrom
   settings-back-1 m =
-      let none = m .functions-none refl in
-      let zero = m .reminder-off (rw none) in
-      rebuilt s _ 0 0 0 (word-back (s .tick)) (sym none) (sym (zero .0)) (sym (zero .1))
+      let none = m Functions tt .0 refl in
+      rebuilt s _ 0 0 0 (word-back (s .tick)) (sym none) (sym (m X tt .1 (rw none))) (sym (m Y tt .1 (rw none)))
 
   settings-back-2 : SettingsMet 2 s → settingsOf (recordOf 2 s ++ rest) ≡ s
   unfolding settingsFrom recordOf bytesOf byte word rowAt functionsFrom
@@ -74,19 +69,19 @@ module _ (s : Settings) (rest : List ℕ) where
   unfolding recordOf bytesOf byte word
   record-reads-1 h low high m =
       let long : 39 ≤ length (recordOf 1 s ++ rest) = omega arith in
-      reads 1 h (recordOf 1 s ++ rest) (lit≤ tt) low high refl refl (lit≤ tt) long (settings-back-1 m) m
+      reads 1 h (recordOf 1 s ++ rest) (lit≤ tt, lit≤ tt) low high refl refl long (settings-back-1 m) m
 
   record-reads-2 : (h : ℕ) → 2 ≤ h → h ≤ 2 → SettingsMet 2 s → readCard (recordOf 2 s ++ rest) h ≡ given s
   unfolding recordOf bytesOf byte word
   record-reads-2 h low high m =
       let long : 44 ≤ length (recordOf 2 s ++ rest) = omega arith in
-      reads 2 h (recordOf 2 s ++ rest) (lit≤ tt) low high refl refl (lit≤ tt) long (settings-back-2 m) m
+      reads 2 h (recordOf 2 s ++ rest) (lit≤ tt, lit≤ tt) low high refl refl long (settings-back-2 m) m
 
 -- the record of a known version, with anything behind it, reads as its settings
-pub record-reads : (v h : ℕ) (s : Settings) (rest : List ℕ) → 1 ≤ v → v ≤ h → h ≤ 2 → SettingsMet v s → readCard (recordOf v s ++ rest) h ≡ given s
+pub record-reads : (v h : ℕ) (s : Settings) (rest : List ℕ) → Known v → v ≤ h → h ≤ 2 → SettingsMet v s → readCard (recordOf v s ++ rest) h ≡ given s
 record-reads v h s rest low known high m =
     ⊎-elim (λ e. rw e (record-reads-1 s rest h (rw e at known) high (rw e at m))) (λ e. rw e (record-reads-2 s rest h (rw e at known) high (rw e at m)))
-    (version-cases low (omega arith))
+    (version-cases low)
 
 -- THE ROUND TRIP: settings that are in range beside a version, and have room, are written; and the buffer then reads as these
 -- settings in every reader whose highest version is no lower
@@ -94,7 +89,7 @@ pub round-trip : (v h : ℕ) (s : Settings) (buffer : List ℕ) → WriteMet v s
     → (writeCard v s (length buffer) ≡ given written) × (readCard (leaves (writeCard v s (length buffer)) v s buffer) h ≡ given s)
 round-trip v h s buffer m known high =
     let done = written-when v s (length buffer) m in
-    (done, rw done (record-reads v h s (drop (lengthOf v) buffer) (m .version-low) known high (m .settings)))
+    (done, rw done (record-reads v h s (drop (lengthOf v) buffer) (m .known) known high (m .settings)))
 
 -- the same of the functions' own results: w and what the buffer holds after it meet the writer's promise, r the reader's
 pub round-trip-results : (v h : ℕ) (s : Settings) (before after : List ℕ) (w : Written) (r : Reading)

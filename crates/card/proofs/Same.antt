@@ -4,14 +4,11 @@ use native.Mathlib.Omega.{arith}
 use mathlib.Core.Path.{_≡_, refl}
 use mathlib.Core.Bool.{Bool, true, false}
 use mathlib.Core.List.{List}
-use lib.Dec.{lit≤, lit<}
+use lib.Dec.{lit≤}
 use Rattle.leaf.specs.Bytes.{byte, word}
-use Rattle.card.specs.Card.{FIRST, rowAt, reminds}
+use Rattle.card.specs.Card.{rowAt, reminds, Same}
 use Rattle.card.specs.Reading.{kept, functionsFrom, settingsFrom}
-
--- the bytes from lo to below hi are the same
-abbrev pub Same : List ℕ → List ℕ → ℕ → ℕ → Type 0
-Same a b lo hi = (i : ℕ) → lo ≤ i → i < hi → byte a i ≡ byte b i
+use Rattle.card.specs.declared.Kind.{Kind}
 
 pub same-word : (a b : List ℕ) (at : ℕ) → Same a b at (at + 2) → word a at ≡ word b at
 unfolding word
@@ -31,12 +28,17 @@ pub kept-same : (on : Bool) (x y : ℕ) → (on ≡ true → x ≡ y) → kept o
 kept-same true x y h = h refl
 kept-same false x y h = refl
 
--- the same bytes 3 to 38, functions, X and Y: the same settings
-pub same-settings : (v w : ℕ) (a b : List ℕ) → Same a b 3 39 → functionsFrom FIRST v a ≡ functionsFrom FIRST w b
-    → (reminds (functionsFrom FIRST w b) ≡ true → Same a b 40 44) → settingsFrom FIRST v a ≡ settingsFrom FIRST w b
+-- the same bytes before the functions, the same functions, X and Y: the same settings, on a card of any kind
+pub same-settings : (kind : Kind) (v w : ℕ) (a b : List ℕ) → Same a b (kind .first) (kind .first + 36) → functionsFrom kind v a ≡ functionsFrom kind w b
+    → (reminds (functionsFrom kind w b) ≡ true → Same a b (kind .first + 37) (kind .first + 41)) → settingsFrom kind v a ≡ settingsFrom kind w b
 unfolding settingsFrom
-same-settings v w a b h f on =
-    let row : (at : ℕ) → 3 ≤ at → at + 4 ≤ 39 → rowAt a at ≡ rowAt b at = λ at low high. same-row a b at (same-part a b 3 39 at (at + 4) h low high) in
-    let x = kept-same (reminds (functionsFrom FIRST w b)) (word a 40) (word b 40) (λ e. same-word a b 40 (same-part a b 40 44 40 42 (on e) (lit≤ tt) (lit≤ tt))) in
-    let y = kept-same (reminds (functionsFrom FIRST w b)) (word a 42) (word b 42) (λ e. same-word a b 42 (same-part a b 40 44 42 44 (on e) (lit≤ tt) (lit≤ tt))) in
-    simp (f, x, y, h 3 (lit≤ tt) (lit< tt), same-word a b 4 (same-part a b 3 39 4 6 h (lit≤ tt) (lit≤ tt)), h 6 (lit≤ tt) (lit< tt), row 7 (lit≤ tt) (lit≤ tt), row 11 (lit≤ tt) (lit≤ tt), row 15 (lit≤ tt) (lit≤ tt), row 19 (lit≤ tt) (lit≤ tt), row 23 (lit≤ tt) (lit≤ tt), row 27 (lit≤ tt) (lit≤ tt), row 31 (lit≤ tt) (lit≤ tt), row 35 (lit≤ tt) (lit≤ tt))
+same-settings kind v w a b h f on =
+    let one : (o : ℕ) → o + 1 ≤ 36 → byte a (kind .first + o) ≡ byte b (kind .first + o) = λ o high. h (kind .first + o) (omega arith) (omega arith) in
+    let row : (o : ℕ) → o + 4 ≤ 36 → rowAt a (kind .first + o) ≡ rowAt b (kind .first + o)
+    = λ o high. same-row a b (kind .first + o) (same-part a b _ _ _ _ h (omega arith) (omega arith)) in
+    let tick = same-word a b (kind .first + 1) (same-part a b _ _ _ _ h (omega arith) (omega arith)) in
+    let x = kept-same (reminds (functionsFrom kind w b)) (word a (kind .first + 37)) (word b (kind .first + 37))
+    (λ e. same-word a b (kind .first + 37) (same-part a b _ _ _ _ (on e) (omega arith) (omega arith))) in
+    let y = kept-same (reminds (functionsFrom kind w b)) (word a (kind .first + 39)) (word b (kind .first + 39))
+    (λ e. same-word a b (kind .first + 39) (same-part a b _ _ _ _ (on e) (omega arith) (omega arith))) in
+    simp (f, x, y, one 0 (lit≤ tt), tick, one 3 (lit≤ tt), row 4 (lit≤ tt), row 8 (lit≤ tt), row 12 (lit≤ tt), row 16 (lit≤ tt), row 20 (lit≤ tt), row 24 (lit≤ tt), row 28 (lit≤ tt), row 32 (lit≤ tt))

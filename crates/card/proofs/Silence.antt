@@ -9,17 +9,14 @@ use lib.ListN.{length}
 use borrow.Author.Tests.{le-leb, lt-leb, lt-ltb}
 use Rattle.leaf.specs.Choosing.{pick}
 use Rattle.leaf.specs.Bytes.{byte}
-use Rattle.card.specs.Card.{FIRST, lengthOf, reminds, speaks}
+use Rattle.card.specs.Card.{baseKind, lengthOf, reminds, speaks, Same}
 use Rattle.card.specs.Reading.{functionsFrom, settingsFrom, readCard, paperOf}
 use Rattle.card.specs.declared.Reading.{Reading}
+use Rattle.card.proofs.Area.{length-low}
 use Rattle.card.proofs.Determined.{paper-one}
-use Rattle.card.proofs.Same.{Same, same-word, same-part, same-settings}
+use Rattle.card.proofs.Same.{same-word, same-part, same-settings}
 
 -- ---- which places speak
-
-at-least : (b : Bool) → 39 ≤ pick b 39 44
-at-least true = lit≤ tt
-at-least false = lit≤ tt
 
 or-true : (b : Bool) → (b || true) ≡ true
 or-true true = refl
@@ -29,7 +26,7 @@ or-true false = refl
 first-speak : (v f i : ℕ) → i < 39 → speaks v f i ≡ true
 unfolding speaks
 first-speak v f i l =
-    let inside : i < lengthOf v = omega (arith, at-least (eqb v 1)) in
+    let inside : i < lengthOf v = omega (arith, length-low v) in
     let early : i < 40 = omega arith in
     rw (lt-ltb i (lengthOf v) inside, lt-leb 40 i early) (or-true (reminds f))
 
@@ -44,7 +41,7 @@ unfolding speaks
 reminder-speaks v f i e on u = rw (e, lt-ltb i 44 u, on)
 
 -- the reminder is on only where the version is not 1
-reminder-version : (v : ℕ) (area : List ℕ) → reminds (functionsFrom FIRST v area) ≡ true → (eqb v 1 ≡ false) × (reminds (byte area 39) ≡ true)
+reminder-version : (v : ℕ) (area : List ℕ) → reminds (functionsFrom baseKind v area) ≡ true → (eqb v 1 ≡ false) × (reminds (byte area 39) ≡ true)
 unfolding functionsFrom
 reminder-version v area on = cases (eqb v 1) refl on
   where
@@ -58,7 +55,7 @@ module _ (a b : List ℕ) (h : ℕ) (fits-a : lengthOf (byte a 2) ≤ length a) 
   front : Same a b 0 39
   front i l u = same i (first-speak _ _ i u)
 
-  same-functions : functionsFrom FIRST (byte a 2) a ≡ functionsFrom FIRST (byte a 2) b
+  same-functions : functionsFrom baseKind (byte a 2) a ≡ functionsFrom baseKind (byte a 2) b
   unfolding functionsFrom
   same-functions = cases (eqb (byte a 2) 1) refl
     where
@@ -66,21 +63,21 @@ module _ (a b : List ℕ) (h : ℕ) (fits-a : lengthOf (byte a 2) ≤ length a) 
       cases true e = refl
       cases false e = same 39 (functions-speak _ _ e)
 
-  back : reminds (functionsFrom FIRST (byte a 2) b) ≡ true → Same a b 40 44
+  back : reminds (functionsFrom baseKind (byte a 2) b) ≡ true → Same a b 40 44
   back on i l u =
       let r = reminder-version (byte a 2) a (rw same-functions on) in
       same i (reminder-speaks (byte a 2) (byte a 39) i (r .0) (r .1) u)
 
-  same-all : settingsFrom FIRST (byte a 2) a ≡ settingsFrom FIRST (byte a 2) b
-  same-all = same-settings (byte a 2) (byte a 2) a b (same-part a b 0 39 3 39 front (lit≤ tt) (lit≤ tt)) same-functions back
+  same-all : settingsFrom baseKind (byte a 2) a ≡ settingsFrom baseKind (byte a 2) b
+  same-all = same-settings baseKind (byte a 2) (byte a 2) a b (same-part a b 0 39 3 39 front (lit≤ tt) (lit≤ tt)) same-functions back
 
   pub silence : readCard a h ≡ readCard b h
   unfolding readCard
   silence =
       let e = front 2 (lit≤ tt) (lit< tt) in
       let w = same-word a b 0 (same-part a b 0 39 0 2 front (lit≤ tt) (lit≤ tt)) in
-      let a3 : 3 ≤ length a = omega (arith, at-least (eqb (byte a 2) 1)) in
-      let b3 : 3 ≤ length b = omega (arith, at-least (eqb (byte a 2) 1)) in
+      let a3 : 3 ≤ length a = omega (arith, length-low (byte a 2)) in
+      let b3 : 3 ≤ length b = omega (arith, length-low (byte a 2)) in
       rw (same-all, w, le-leb _ _ a3, le-leb _ _ fits-a, ← e, le-leb _ _ b3, le-leb _ _ fits-b)
 
   -- and of any two results of the reader

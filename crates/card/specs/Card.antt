@@ -1,20 +1,23 @@
 -- Document 01, "The card": what stands where, the functions, and which bytes speak.
-use Prim.Native.Nat.{ℕ, _+_}
-use mathlib.Core.List.{List}
+use Prim.Native.Nat.{ℕ, _+_, _≤_, _<_}
+use mathlib.Core.Path.{_≡_}
+use mathlib.Core.List.{List, [], _∷_}
 use mathlib.Core.Bool.{Bool, _&&_, _||_, not}
 use lib.Dec.{ltb, eqb}
 use Rattle.leaf.specs.Choosing.{pick}
 use Rattle.leaf.specs.Numbers.{within, bitOf}
 use Rattle.leaf.specs.Bytes.{byte}
+use Rattle.card.specs.declared.Kind.{Kind}
 use Rattle.card.specs.declared.Row.{Row}
+use Rattle.card.specs.declared.Settings.{Settings}
 use Rattle.card.specs.declared.Functions.{Functions}
 
 -- ---- the record
 
--- "Bytes 0–1 length of the whole record, 2 version, 3 vmax": the settings begin at byte 3, and each setting's place below
--- is so many bytes behind the first
-abbrev pub FIRST : ℕ
-FIRST = 3
+-- This card's kind. "Bytes 0–1 length of the whole record, 2 version, 3 vmax 80..200 km/h": the settings begin at byte 3, and the
+-- place of each is so many bytes behind the first
+abbrev pub baseKind : Kind
+baseKind = record { first = 3; «vmax_lowest» = 80; «vmax_highest» = 200 }
 
 -- "The version 1 length, 39, and the version 2 length, 44, belong to the card's kind."
 abbrev pub lengthOf : ℕ → ℕ
@@ -27,6 +30,11 @@ known version = within 1 2 version
 -- "eight rows of four: initial, final, delay, drop": the row that begins at a place
 unfoldable pub rowAt : List ℕ → ℕ → Row
 rowAt area at = record { initial = byte area at; last = byte area (at + 1); delay = byte area (at + 2); drop = byte area (at + 3) }
+
+-- "Rows 0..7: conditional clear, stop announcement, preannouncement, caution, before-stop, unprotected crossing, limit, start."
+abbrev pub rowsOf : Settings → List Row
+rowsOf s =
+    s .«conditional_clear» ∷ s .announcement ∷ s .preannouncement ∷ s .caution ∷ s .«before_stop» ∷ s .crossing ∷ s .limit ∷ s .start ∷ []
 
 -- ---- the functions
 
@@ -53,3 +61,7 @@ functionsOf functions =
 -- "Speaking bytes: the record, less 40–43 when bit 2 is off."
 unfoldable pub speaks : ℕ → ℕ → ℕ → Bool
 speaks version functions at = ltb at (lengthOf version) && (reminds functions || not (within 40 43 at))
+
+-- two areas have the same bytes from one place to below another
+abbrev pub Same : List ℕ → List ℕ → ℕ → ℕ → Type 0
+Same a b lo hi = (i : ℕ) → lo ≤ i → i < hi → byte a i ≡ byte b i

@@ -5,3 +5,4 @@ pub mod Writing
 pub mod Laws
 pub mod Plain
 pub mod Lines
+pub mod CardA

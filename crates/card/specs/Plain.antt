@@ -1,89 +1,181 @@
--- The same rules once more in plain facts, `≤` and `≡` on bytes and fields: what it takes for a card to be accepted, and for
--- settings to be written. That they say the same as the lists of checks is proved (proofs/Accepted.antt).
-use Prim.Native.Nat.{ℕ, _+_, _/_, _%_, _≤_}
+-- The same rules once more in plain facts, `≤` and `≡` on bytes and fields, and no order of looking but that of the places and
+-- of document 01's numbers: each setting with its place and range; how a check, a reading and a writing end. That the
+-- definitions come to these is proved, exactly when (proofs/Exactly.antt).
+use Prim.Native.Nat.{ℕ, _+_, _*_, _/_, _%_, _≤_, _<_}
 use mathlib.Core.Path.{_≡_}
 use mathlib.Core.List.{List}
-use lib.ListN.{length}
+use lib.ListN.{length, getD}
 use Rattle.leaf.specs.Bytes.{byte, word}
+use Rattle.leaf.specs.Answers.{Answer, given, refused, refusedAt}
+use Rattle.card.specs.Card.{baseKind, rowsOf}
+use Rattle.card.specs.Reading.{settingsOf}
+use Rattle.card.specs.declared.Kind.{Kind}
 use Rattle.card.specs.declared.Row.{Row}
 use Rattle.card.specs.declared.Settings.{Settings}
 
--- "In a row initial 1..200, final 1..initial, delay any, drop ≥ 1."
-pub record RowMet (initial last drop : ℕ) : Type 0 where
-  pub initial-low : 1 ≤ initial
-  pub initial-high : initial ≤ 200
-  pub last-low : 1 ≤ last
-  pub last-high : last ≤ initial
-  pub drop-low : 1 ≤ drop
+-- "lo..hi", both ends included
+abbrev pub Within : ℕ → ℕ → ℕ → Type 0
+Within lo hi x = (lo ≤ x) × (x ≤ hi)
 
--- the rule of a row among settings, and of one that begins at a place of an area
-abbrev pub RowIn : Row → Type 0
-RowIn row = RowMet (row .initial) (row .last) (row .drop)
+-- ---- the settings, each with its place and range
 
-abbrev pub RowAt : List ℕ → ℕ → Type 0
-RowAt area at = RowMet (byte area at) (byte area (at + 1)) (byte area (at + 3))
+-- what can be out of range on a card: of each row its initial, final and drop
+pub data Setting : Type 0 where
+  Vmax : Setting
+  Tick : Setting
+  Bts : Setting
+  Initial : ℕ → Setting
+  Last : ℕ → Setting
+  Drop : ℕ → Setting
+  Functions : Setting
+  X : Setting
+  Y : Setting
 
--- "reminder X 2..6000 samples .. reminder Y 1..5000 m"
-pub record ReminderMet (x y : ℕ) : Type 0 where
-  pub x-low : 2 ≤ x
-  pub x-high : x ≤ 6000
-  pub y-low : 1 ≤ y
-  pub y-high : y ≤ 5000
+-- "eight rows": a setting that a card has
+abbrev pub OfCard : Setting → Type 0
+OfCard Vmax = Unit
+OfCard Tick = Unit
+OfCard Bts = Unit
+OfCard (Initial row) = row < 8
+OfCard (Last row) = row < 8
+OfCard (Drop row) = row < 8
+OfCard Functions = Unit
+OfCard X = Unit
+OfCard Y = Unit
 
--- settings in range beside a version, on a card whose vmax is lowest to highest
-pub record RangesMet (lowest highest version : ℕ) (s : Settings) : Type 0 where
-  pub vmax-low : lowest ≤ s .vmax
-  pub vmax-high : s .vmax ≤ highest
-  pub tick-low : 10 ≤ s .tick
-  pub tick-high : s .tick ≤ 1000
-  pub bts-low : 1 ≤ s .bts
-  pub bts-high : s .bts ≤ 200
-  pub conditional-clear : RowIn (s .«conditional_clear»)
-  pub announcement : RowIn (s .announcement)
-  pub preannouncement : RowIn (s .preannouncement)
-  pub caution : RowIn (s .caution)
-  pub before-stop : RowIn (s .«before_stop»)
-  pub crossing : RowIn (s .crossing)
-  pub limit : RowIn (s .limit)
-  pub start : RowIn (s .start)
-  pub functions-none : version ≡ 1 → s .functions ≡ 0
-  pub functions-high : s .functions ≤ 15
-  pub reminder-on : s .functions / 4 % 2 ≡ 1 → ReminderMet (s .x) (s .y)
-  pub reminder-off : s .functions / 4 % 2 ≡ 0 → (s .x ≡ 0) × (s .y ≡ 0)
+-- how many bytes behind the first setting: "3 vmax .., 4–5 tick length .., 6 BTS speed .., 7–38 eight rows of four: initial, final,
+-- delay, drop .. 39 functions .., 40–41 reminder X .., 42–43 reminder Y"
+abbrev pub offset : Setting → ℕ
+offset Vmax = 0
+offset Tick = 1
+offset Bts = 3
+offset (Initial row) = 4 + 4 * row
+offset (Last row) = 4 + 4 * row + 1
+offset (Drop row) = 4 + 4 * row + 3
+offset Functions = 36
+offset X = 37
+offset Y = 39
 
--- "vmax 80..200 km/h"
+-- "Places are (first) byte positions"
+abbrev pub place : Kind → Setting → ℕ
+place kind setting = kind .first + offset setting
+
+-- a kind whose places are bytes, and none of them 0
+pub record Placed (kind : Kind) : Type 0 where
+  pub low : 1 ≤ kind .first
+  pub high : kind .first + 39 ≤ 255
+
+-- a row of the settings by its number, 0 to 7
+abbrev pub rowOf : Settings → ℕ → Row
+rowOf s row = getD (rowsOf s) row (s .start)
+
+-- the range of each, beside a version: "In a row initial 1..200, final 1..initial, delay any, drop ≥ 1."; "A version 1 card has
+-- functions 0"; with bit 2 off "settings handed in must then have X and Y 0"
+abbrev pub SettingMet : Kind → ℕ → Settings → Setting → Type 0
+SettingMet kind version s Vmax = Within (kind .«vmax_lowest») (kind .«vmax_highest») (s .vmax)
+SettingMet kind version s Tick = Within 10 1000 (s .tick)
+SettingMet kind version s Bts = Within 1 200 (s .bts)
+SettingMet kind version s (Initial row) = Within 1 200 (rowOf s row .initial)
+SettingMet kind version s (Last row) = Within 1 (rowOf s row .initial) (rowOf s row .last)
+SettingMet kind version s (Drop row) = 1 ≤ rowOf s row .drop
+SettingMet kind version s Functions = (version ≡ 1 → s .functions ≡ 0) × (s .functions ≤ 15)
+SettingMet kind version s X = (s .functions / 4 % 2 ≡ 1 → Within 2 6000 (s .x)) × (s .functions / 4 % 2 ≡ 0 → s .x ≡ 0)
+SettingMet kind version s Y = (s .functions / 4 % 2 ≡ 1 → Within 1 5000 (s .y)) × (s .functions / 4 % 2 ≡ 0 → s .y ≡ 0)
+
+-- every setting is in range
+abbrev pub RangesMet : Kind → ℕ → Settings → Type 0
+RangesMet kind version s = (setting : Setting) → OfCard setting → SettingMet kind version s setting
+
+-- "setting out of range, with place of the first": at this place stands a setting out of range, and every setting at an earlier
+-- place is in range
+pub record FirstOut (kind : Kind) (version : ℕ) (s : Settings) (at : ℕ) : Type 0 where
+  pub setting : Setting
+  pub ofCard : OfCard setting
+  pub stands : place kind setting ≡ at
+  pub out : SettingMet kind version s setting → ⊥
+  pub earlier : (other : Setting) → OfCard other → place kind other < at → SettingMet kind version s other
+
+-- the ranges once more, of the bytes of a record: "A version 1 card has functions 0"; "With bit 2 off, bytes 40–43 are not looked at"
+pub record BytesMet (kind : Kind) (version : ℕ) (area : List ℕ) : Type 0 where
+  pub vmax : Within (kind .«vmax_lowest») (kind .«vmax_highest») (byte area (place kind Vmax))
+  pub tick : Within 10 1000 (word area (place kind Tick))
+  pub bts : Within 1 200 (byte area (place kind Bts))
+  pub initial : (row : ℕ) → row < 8 → Within 1 200 (byte area (place kind (Initial row)))
+  pub last : (row : ℕ) → row < 8 → Within 1 (byte area (place kind (Initial row))) (byte area (place kind (Last row)))
+  pub drop : (row : ℕ) → row < 8 → 1 ≤ byte area (place kind (Drop row))
+  pub functions : version ≡ 2 → byte area (place kind Functions) ≤ 15
+  pub reminder : version ≡ 2 → byte area (place kind Functions) / 4 % 2 ≡ 1
+      → Within 2 6000 (word area (place kind X)) × Within 1 5000 (word area (place kind Y))
+
+-- ---- how a check of settings ends
+
+-- "5 | setting out of range, with place of the first", or none is
+pub data CheckedAs (kind : Kind) (version : ℕ) (s : Settings) : Answer Unit → Type 0 where
+  out-of-range : (at : ℕ) → FirstOut kind version s at → CheckedAs kind version s (refusedAt 5 at)
+  in-range : RangesMet kind version s → CheckedAs kind version s (given tt)
+
+-- on this card
 abbrev pub SettingsMet : ℕ → Settings → Type 0
-SettingsMet version s = RangesMet 80 200 version s
+SettingsMet version s = RangesMet baseKind version s
+
+-- ---- how a reading ends
+
+-- the versions there are: "not 1 or 2"
+abbrev pub Known : ℕ → Type 0
+Known version = Within 1 2 version
+
+-- "The version 1 length, 39, and the version 2 length, 44": a version's length
+abbrev pub LengthOf : ℕ → ℕ → Type 0
+LengthOf version n = (version ≡ 1 → n ≡ 39) × (version ≡ 2 → n ≡ 44)
+
+-- a header with which the settings are looked at
+pub record HeaderMet (area : List ℕ) (highest : ℕ) : Type 0 where
+  pub known : Known highest
+  pub version : Within 1 highest (byte area 2)
+  pub stated : LengthOf (byte area 2) (word area 0)
+  pub whole : word area 0 ≤ length area
 
 -- an area that a reader whose highest version is `highest` accepts
 pub record CardMet (area : List ℕ) (highest : ℕ) : Type 0 where
-  pub highest-low : 1 ≤ highest
-  pub highest-high : highest ≤ 2
-  pub version-low : 1 ≤ byte area 2
-  pub version-high : byte area 2 ≤ highest
-  pub length-1 : byte area 2 ≡ 1 → (word area 0 ≡ 39) × (39 ≤ length area)
-  pub length-2 : byte area 2 ≡ 2 → (word area 0 ≡ 44) × (44 ≤ length area)
-  pub vmax-low : 80 ≤ byte area 3
-  pub vmax-high : byte area 3 ≤ 200
-  pub tick-low : 10 ≤ word area 4
-  pub tick-high : word area 4 ≤ 1000
-  pub bts-low : 1 ≤ byte area 6
-  pub bts-high : byte area 6 ≤ 200
-  pub conditional-clear : RowAt area 7
-  pub announcement : RowAt area 11
-  pub preannouncement : RowAt area 15
-  pub caution : RowAt area 19
-  pub before-stop : RowAt area 23
-  pub crossing : RowAt area 27
-  pub limit : RowAt area 31
-  pub start : RowAt area 35
-  pub functions-high : byte area 2 ≡ 2 → byte area 39 ≤ 15
-  pub reminder-on : byte area 2 ≡ 2 → byte area 39 / 4 % 2 ≡ 1 → ReminderMet (word area 40) (word area 42)
+  pub header : HeaderMet area highest
+  pub bytes : BytesMet baseKind (byte area 2) area
+
+-- "Order: card reading 6, 1 (under 3), 2, 3, 4, 1 (record), 5": each way has what those before it ask for
+pub data ReadAs (area : List ℕ) (highest : ℕ) : Answer Settings → Type 0 where
+  -- "6 | reader's highest version not 1 or 2"
+  unknown-highest : (Known highest → ⊥) → ReadAs area highest (refused 6)
+  -- "1 | card area under 3 bytes"
+  under-3 : Known highest → length area < 3 → ReadAs area highest (refused 1)
+  -- "2 | card version 0"
+  version-0 : Known highest → 3 ≤ length area → byte area 2 ≡ 0 → ReadAs area highest (refused 2)
+  -- "3 | card version above the reader's highest"
+  version-above : Known highest → 3 ≤ length area → highest < byte area 2 → ReadAs area highest (refused 3)
+  -- "4 | length field is not its version's length"
+  other-length : Known highest → 3 ≤ length area → Within 1 highest (byte area 2) → (LengthOf (byte area 2) (word area 0) → ⊥)
+      → ReadAs area highest (refused 4)
+  -- "1 | .. or shorter than its record"
+  short : Known highest → 3 ≤ length area → Within 1 highest (byte area 2) → LengthOf (byte area 2) (word area 0)
+      → length area < word area 0 → ReadAs area highest (refused 1)
+  -- "5 | setting out of range, with place of the first"
+  out-of-range : HeaderMet area highest → (at : ℕ) → FirstOut baseKind (byte area 2) (settingsOf area) at → ReadAs area highest (refusedAt 5 at)
+  -- none of them: the settings of its bytes
+  accepted : CardMet area highest → ReadAs area highest (given (settingsOf area))
+
+-- ---- how a writing ends
 
 -- what the writer writes into a buffer of `room` bytes
 pub record WriteMet (version : ℕ) (s : Settings) (room : ℕ) : Type 0 where
-  pub version-low : 1 ≤ version
-  pub version-high : version ≤ 2
+  pub known : Known version
   pub settings : SettingsMet version s
-  pub room-1 : version ≡ 1 → 39 ≤ room
-  pub room-2 : version ≡ 2 → 44 ≤ room
+  pub fits : (n : ℕ) → LengthOf version n → n ≤ room
+
+-- "writing 2, 5, 13": each way has what those before it ask for
+pub data WrittenAs (version : ℕ) (s : Settings) (room : ℕ) : Answer Unit → Type 0 where
+  -- "2 | .. (writer: not 1 or 2)"
+  unknown-version : (Known version → ⊥) → WrittenAs version s room (refused 2)
+  -- "5 | setting out of range, with place of the first"
+  out-of-range : Known version → (at : ℕ) → FirstOut baseKind version s at → WrittenAs version s room (refusedAt 5 at)
+  -- "13 | writer's buffer shorter than the record"
+  short : Known version → SettingsMet version s → ((n : ℕ) → LengthOf version n → room < n) → WrittenAs version s room (refused 13)
+  -- none of them: it is done
+  done : WriteMet version s room → WrittenAs version s room (given tt)

@@ -8,8 +8,9 @@ use Rattle.leaf.specs.Choosing.{pick}
 use Rattle.leaf.specs.Bytes.{byte, word}
 use Rattle.leaf.specs.Checks.{Check, firstBad}
 use Rattle.leaf.specs.Answers.{Answer, given, refused, refusedAt, refusalOf}
-use Rattle.card.specs.Card.{FIRST, lengthOf, known, rowAt, reminds}
+use Rattle.card.specs.Card.{baseKind, lengthOf, known, rowAt, reminds}
 use Rattle.card.specs.Ranges.{faultOf}
+use Rattle.card.specs.declared.Kind.{Kind}
 use Rattle.card.specs.declared.Settings.{Settings}
 use Rattle.card.specs.declared.Reading.{Reading}
 use Rattle.card.specs.declared.Reading.the-variants.{Read, Refused}
@@ -17,36 +18,36 @@ use Rattle.card.specs.declared.Reading.the-variants.{Read, Refused}
 -- ---- the settings of an area
 
 -- "Version 2 adds 39 functions"; "A version 1 card has functions 0"
-unfoldable pub functionsFrom : ℕ → ℕ → List ℕ → ℕ
-functionsFrom first version area = pick (eqb version 1) 0 (byte area (first + 36))
+unfoldable pub functionsFrom : Kind → ℕ → List ℕ → ℕ
+functionsFrom kind version area = pick (eqb version 1) 0 (byte area (kind .first + 36))
 
 -- "With bit 2 off, bytes 40–43 are not looked at and X, Y read as 0"
 abbrev pub kept : Bool → ℕ → ℕ
 kept on x = pick on x 0
 
--- the settings of an area whose first setting stands at `first`; "Big-endian": a word is high byte first
-unfoldable pub settingsFrom : ℕ → ℕ → List ℕ → Settings
-settingsFrom first version area =
+-- the settings of an area that holds a record of a kind and version; "Big-endian": a word is high byte first
+unfoldable pub settingsFrom : Kind → ℕ → List ℕ → Settings
+settingsFrom kind version area =
     record {
-      vmax = byte area (first + 0);
-      tick = word area (first + 1);
-      bts = byte area (first + 3);
-      «conditional_clear» = rowAt area (first + 4);
-      announcement = rowAt area (first + 8);
-      preannouncement = rowAt area (first + 12);
-      caution = rowAt area (first + 16);
-      «before_stop» = rowAt area (first + 20);
-      crossing = rowAt area (first + 24);
-      limit = rowAt area (first + 28);
-      start = rowAt area (first + 32);
-      functions = functionsFrom first version area;
-      x = kept (reminds (functionsFrom first version area)) (word area (first + 37));
-      y = kept (reminds (functionsFrom first version area)) (word area (first + 39));
+      vmax = byte area (kind .first + 0);
+      tick = word area (kind .first + 1);
+      bts = byte area (kind .first + 3);
+      «conditional_clear» = rowAt area (kind .first + 4);
+      announcement = rowAt area (kind .first + 8);
+      preannouncement = rowAt area (kind .first + 12);
+      caution = rowAt area (kind .first + 16);
+      «before_stop» = rowAt area (kind .first + 20);
+      crossing = rowAt area (kind .first + 24);
+      limit = rowAt area (kind .first + 28);
+      start = rowAt area (kind .first + 32);
+      functions = functionsFrom kind version area;
+      x = kept (reminds (functionsFrom kind version area)) (word area (kind .first + 37));
+      y = kept (reminds (functionsFrom kind version area)) (word area (kind .first + 39));
     }
 
--- this card's settings: the version is byte 2, the first setting stands at byte 3
+-- this card's settings: the version is byte 2
 abbrev pub settingsOf : List ℕ → Settings
-settingsOf area = settingsFrom FIRST (byte area 2) area
+settingsOf area = settingsFrom baseKind (byte area 2) area
 
 -- ---- the refusals
 

@@ -1,5 +1,6 @@
 // Where the settings stand on the card: bytes to settings, and settings to bytes. What is read stands so many bytes
-// behind the card's first setting, whose place is handed in.
+// behind the first setting of the card's kind.
+use crate::Kind;
 use crate::Row;
 use crate::Settings;
 use crate::ranges::has_reminder;
@@ -23,22 +24,22 @@ pub fn length_of(version: u8) -> u16
     choose16(version == 1, Settings::LENGTH_1, Settings::LENGTH_2)
 }
 
-fn byte_from(area: &[u8], first: u8, offset: u8) -> u8
-    ensures { λ r. ⌜ r ≡ byte (now (area .entry)) (first + offset) ⌝ }
+fn byte_from(area: &[u8], kind: Kind, offset: u8) -> u8
+    ensures { λ r. ⌜ r ≡ byte (now (area .entry)) (kind .first + offset) ⌝ }
 {
-    byte_at(area, (first as usize) + (offset as usize))
+    byte_at(area, (kind.first as usize) + (offset as usize))
 }
 
-fn word_from(area: &[u8], first: u8, offset: u8) -> u16
-    ensures { λ r. ⌜ r ≡ word (now (area .entry)) (first + offset) ⌝ }
+fn word_from(area: &[u8], kind: Kind, offset: u8) -> u16
+    ensures { λ r. ⌜ r ≡ word (now (area .entry)) (kind .first + offset) ⌝ }
 {
-    word_at(area, (first as u32) + (offset as u32))
+    word_at(area, (kind.first as u32) + (offset as u32))
 }
 
-fn row_from(area: &[u8], first: u8, offset: u8) -> Row
-    ensures { λ r. ⌜ r ≡ rowAt (now (area .entry)) (first + offset) ⌝ }
+fn row_from(area: &[u8], kind: Kind, offset: u8) -> Row
+    ensures { λ r. ⌜ r ≡ rowAt (now (area .entry)) (kind .first + offset) ⌝ }
 {
-    let at = (first as usize) + (offset as usize);
+    let at = (kind.first as usize) + (offset as usize);
     Row {
         initial: byte_at(area, at),
         last: byte_at(area, at + 1),
@@ -48,36 +49,38 @@ fn row_from(area: &[u8], first: u8, offset: u8) -> Row
 }
 
 // A version 1 card has functions 0, whatever stands behind it.
-fn functions_from(first: u8, version: u8, area: &[u8]) -> u8
-    ensures { λ r. ⌜ r ≡ functionsFrom first version (now (area .entry)) ⌝ }
+fn functions_from(kind: Kind, version: u8, area: &[u8]) -> u8
+    ensures { λ r. ⌜ r ≡ functionsFrom kind version (now (area .entry)) ⌝ }
 {
-    let there = byte_from(area, first, 36);
+    let there = byte_from(area, kind, 36);
     choose8(version == 1, 0, there)
 }
 
-// The settings of an area whose first setting stands at first.
-pub fn settings_from(first: u8, version: u8, area: &[u8]) -> Settings
-    ensures { λ r. ⌜ r ≡ settingsFrom first version (now (area .entry)) ⌝ }
-{
-    let functions = functions_from(first, version, area);
-    let on = has_reminder(functions);
-    let x = word_from(area, first, 37);
-    let y = word_from(area, first, 39);
-    Settings {
-        vmax: byte_from(area, first, 0),
-        tick: word_from(area, first, 1),
-        bts: byte_from(area, first, 3),
-        conditional_clear: row_from(area, first, 4),
-        announcement: row_from(area, first, 8),
-        preannouncement: row_from(area, first, 12),
-        caution: row_from(area, first, 16),
-        before_stop: row_from(area, first, 20),
-        crossing: row_from(area, first, 24),
-        limit: row_from(area, first, 28),
-        start: row_from(area, first, 32),
-        functions,
-        x: choose16(on, x, 0),
-        y: choose16(on, y, 0),
+impl Kind {
+    // The settings of an area that holds a record of this kind and version.
+    pub fn settings_from(self, version: u8, area: &[u8]) -> Settings
+        ensures { λ r. ⌜ r ≡ settingsFrom self version (now (area .entry)) ⌝ }
+    {
+        let functions = functions_from(self, version, area);
+        let on = has_reminder(functions);
+        let x = word_from(area, self, 37);
+        let y = word_from(area, self, 39);
+        Settings {
+            vmax: byte_from(area, self, 0),
+            tick: word_from(area, self, 1),
+            bts: byte_from(area, self, 3),
+            conditional_clear: row_from(area, self, 4),
+            announcement: row_from(area, self, 8),
+            preannouncement: row_from(area, self, 12),
+            caution: row_from(area, self, 16),
+            before_stop: row_from(area, self, 20),
+            crossing: row_from(area, self, 24),
+            limit: row_from(area, self, 28),
+            start: row_from(area, self, 32),
+            functions,
+            x: choose16(on, x, 0),
+            y: choose16(on, y, 0),
+        }
     }
 }
 

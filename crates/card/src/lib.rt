@@ -8,7 +8,6 @@ mod ranges;
 
 use layout::encode;
 use layout::length_of;
-use layout::settings_from;
 use leaf::Refusal;
 use leaf::byte_at;
 use leaf::copy_front;
@@ -16,8 +15,6 @@ use leaf::has_bit;
 use leaf::in_range;
 use leaf::or_fault;
 use leaf::word_at;
-use ranges::settings_fault;
-use ranges::settings_inside;
 ghost use mathlib.Core.Path.{_≡_};
 ghost use lib.ListN.{length};
 ghost use Rattle.leaf.specs.Bytes.{over};
@@ -28,12 +25,22 @@ ghost use Rattle.card.specs.Ranges.{faultOf, checkedOf, checkSettings};
 ghost use Rattle.card.specs.Reading.{paperOf, answerBy, readChecks, readCard};
 ghost use Rattle.card.specs.Writing.{writtenOf, written, writeChecks, writeCard, bytesOf, leaves};
 
-// This card's kind: the byte of its first setting, and the range of vmax.
-const FIRST: u8 = 3;
+// A kind of card: the place of its first setting, and the range of vmax in km/h. Every kind has the same settings in the
+// same order, one behind the other.
+pub struct Kind {
+    pub first: u8,
+    pub vmax_lowest: u8,
+    pub vmax_highest: u8,
+}
 
-const VMAX_LOWEST: u8 = 80;
-
-const VMAX_HIGHEST: u8 = 200;
+impl Kind {
+    // This product's card.
+    pub const BASE: Kind = Kind {
+        first: 3,
+        vmax_lowest: 80,
+        vmax_highest: 200,
+    };
+}
 
 // One control's numbers: initial and last speed in km/h, delay in samples, drop in hundredths of km/h a sample.
 // (The paper's final: `final` is a word of the language.)
@@ -108,30 +115,18 @@ pub fn functions_of(byte: u8) -> Functions
 
 // ---- the settings' check
 
-// The place of the first setting out of range beside this version, 0 where there is none.
-fn fault(version: u8, s: Settings) -> u8
-    ensures { λ r. ⌜ r ≡ faultOf version s ⌝ }
-{
-    settings_fault(FIRST, VMAX_LOWEST, VMAX_HIGHEST, version, s)
-}
-
 // Are the settings in range beside this version. The opening, which has no version, asks as beside version 2.
 pub fn check(version: u8, s: Settings) -> Checked
     ensures { λ r. ⌜ checkedOf r ≡ checkSettings version s ⌝ }
 {
-    let place = fault(version, s);
-    let fine = place == 0;
-    if fine {
-        return Checked::InRange;
-    }
-    Checked::FaultAt(place)
+    Kind::BASE.check(version, s)
 }
 
 // The same, without the place of a fault.
 pub fn is_in_range(version: u8, s: Settings) -> bool
     ensures { λ r. ⌜ r ≡ isGiven (checkSettings version s) ⌝ }
 {
-    settings_inside(VMAX_LOWEST, VMAX_HIGHEST, version, s)
+    Kind::BASE.is_in_range(version, s)
 }
 
 fn is_known(version: u8) -> bool
@@ -160,18 +155,21 @@ fn read_refusal(area: &[u8], highest: u8, fine: bool) -> u8
     or_fault(n, 5, fine)
 }
 
-fn reading_by(number: u8, place: u8, s: Settings) -> Reading
-    ensures { λ r. ⌜ paperOf r ≡ answerBy number place s ⌝ }
-{
-    let none = number == 0;
-    if none {
-        return Reading::Read(s);
+impl Reading {
+    // The reading by the number of the refusal that is due, 0 where none is; 5 comes with the place.
+    pub fn by_number(number: u8, place: u8, s: Settings) -> Reading
+        ensures { λ r. ⌜ paperOf r ≡ answerBy number place s ⌝ }
+    {
+        let none = number == 0;
+        if none {
+            return Reading::Read(s);
+        }
+        let placed = number == 5;
+        if placed {
+            return Reading::Refused(Refusal::At(5, place));
+        }
+        Reading::Refused(Refusal::Number(number))
     }
-    let placed = number == 5;
-    if placed {
-        return Reading::Refused(Refusal::At(5, place));
-    }
-    Reading::Refused(Refusal::Number(number))
 }
 
 // The settings of the card in the area, for a reader that knows the versions up to highest. Nothing beyond the
@@ -180,10 +178,10 @@ pub fn read(area: &[u8], highest: u8) -> Reading
     ensures { λ r. ⌜ paperOf r ≡ readCard (now (area .entry)) highest ⌝ }
 {
     let version = byte_at(area, 2);
-    let s = settings_from(FIRST, version, area);
-    let place = fault(version, s);
+    let s = Kind::BASE.settings_from(version, area);
+    let place = Kind::BASE.fault(version, s);
     let number = read_refusal(area, highest, place == 0);
-    reading_by(number, place, s)
+    Reading::by_number(number, place, s)
 }
 
 // ---- writing
@@ -199,26 +197,29 @@ fn write_refusal(version: u8, fine: bool, room: usize) -> u8
     or_fault(n, 13, fits)
 }
 
-fn written_by(number: u8, place: u8) -> Written
-    ensures { λ r. ⌜ writtenOf r ≡ answerBy number place written ⌝ }
-{
-    let none = number == 0;
-    if none {
-        return Written::Done;
+impl Written {
+    // The writer's answer by the number of the refusal that is due, 0 where none is; 5 comes with the place.
+    pub fn by_number(number: u8, place: u8) -> Written
+        ensures { λ r. ⌜ writtenOf r ≡ answerBy number place written ⌝ }
+    {
+        let none = number == 0;
+        if none {
+            return Written::Done;
+        }
+        let placed = number == 5;
+        if placed {
+            return Written::NotWritten(Refusal::At(5, place));
+        }
+        Written::NotWritten(Refusal::Number(number))
     }
-    let placed = number == 5;
-    if placed {
-        return Written::NotWritten(Refusal::At(5, place));
-    }
-    Written::NotWritten(Refusal::Number(number))
 }
 
 fn write_answer(version: u8, s: Settings, room: usize) -> Written
     ensures { λ r. ⌜ writtenOf r ≡ writeCard version s room ⌝ }
 {
-    let place = fault(version, s);
+    let place = Kind::BASE.fault(version, s);
     let number = write_refusal(version, place == 0, room);
-    written_by(number, place)
+    Written::by_number(number, place)
 }
 
 // The record over the buffer's first bytes, as many as there is room for.

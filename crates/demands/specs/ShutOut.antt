@@ -8,10 +8,10 @@ use mathlib.Core.Path.{_≡_}
 use lib.ListN.{length}
 use lib.Ieee.{Float}
 use Rattle.leaf.specs.Bytes.{byte}
-use Rattle.leaf.specs.Checks.{FirstFault}
 use Rattle.leaf.specs.Answers.{Answer, given, refusedAt, isGiven}
 use Rattle.card.specs.declared.Settings.{Settings}
-use Rattle.card.specs.Ranges.{checksOf}
+use Rattle.card.specs.Card.{baseKind}
+use Rattle.card.specs.Plain.{FirstOut}
 use Rattle.card.specs.Reading.{settingsOf, readCard}
 use Rattle.card.specs.Writing.{writeCard}
 use Rattle.tone.specs.Facts as sheet
@@ -22,7 +22,7 @@ use Rattle.session.specs.declared.Session.{Session}
 use Rattle.session.specs.declared.Sampled.{Sampled}
 use Rattle.session.specs.declared.Outcome.{Outcome}
 use Rattle.session.specs.declared.Outcome.the-variants.{Answered, Refused}
-use Rattle.session.specs.Session.{openSession, sampleOf}
+use Rattle.session.specs.Session.{openingVersion, openSession, sampleOf}
 use Rattle.text.specs.Decimal.{line}
 use Rattle.rides.specs.Ride.{startRide}
 use Rattle.printed.specs.declared.Columns.{Columns}
@@ -97,10 +97,11 @@ pub record ShutOut : Type 0 where
   pub some-tone : ((area : List ℕ) (tone : Float) → isGiven (classifyOf area tone) ≡ false) → ⊥
   pub some-opening : ((s : Settings) (train : ℕ) → isGiven (openSession s train) ≡ false) → ⊥
   pub some-recording : ((s : Settings) (recording : List ℕ) → isGiven (startRide s recording) ≡ false) → ⊥
-  -- "an invented place": a place given by the reader, the writer or the sheet is that of the first fault there is
-  pub not-invented-read : (area : List ℕ) (highest n place : ℕ) → readCard area highest ≡ refusedAt n place
-      → (n ≡ 5) × FirstFault place (checksOf (byte area 2) (settingsOf area))
-  pub not-invented-write : (version : ℕ) (s : Settings) (room n place : ℕ) → writeCard version s room ≡ refusedAt n place → (n ≡ 5) × FirstFault place (checksOf version s)
+  -- "an invented place": a place given by the reader, the writer, opening or the sheet is that of the first fault there is
+  pub not-invented-read : (area : List ℕ) (highest n at : ℕ) → readCard area highest ≡ refusedAt n at
+      → (n ≡ 5) × FirstOut baseKind (byte area 2) (settingsOf area) at
+  pub not-invented-write : (version : ℕ) (s : Settings) (room n at : ℕ) → writeCard version s room ≡ refusedAt n at → (n ≡ 5) × FirstOut baseKind version s at
+  pub not-invented-opening : (s : Settings) (train n at : ℕ) → openSession s train ≡ refusedAt n at → (n ≡ 5) × FirstOut baseKind openingVersion s at
   pub not-invented-sheet : (area : List ℕ) (n place : ℕ) → readSheet area ≡ refusedAt n place → (n ≡ 12) × sheet.FirstFault area place
   -- "an invented .. printed sample number": where the ride on a card answers a to its k-th sample, the line below the first k, the heading
   -- among them, is that answer's, numbered k

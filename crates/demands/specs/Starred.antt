@@ -6,7 +6,7 @@ use mathlib.Core.List.{List, [], _∷_, _++_}
 use Rattle.leaf.specs.Answers.{Answer, given}
 use Rattle.card.specs.declared.Row.{Row}
 use Rattle.card.specs.Lines.{Line, line, Holds}
-use Rattle.card.proofs.Examples.{cardA, cardLines}
+use Rattle.card.specs.CardA.{cardA, cardLines}
 use Rattle.curve.specs.Curve.{rowSpeed}
 use Rattle.signals.specs.MainControl.{mainOf}
 use Rattle.signals.specs.declared.control.MainKind.the-variants.{BeforeStop}

@@ -1,16 +1,11 @@
 use borrow.Author.Needs.{needs}
 use Rattle.card.proofs.check.Statement.{statement}
 use Rattle.card.proofs.check.Tie as tie
-use mathlib.Core.Path.{sym}
-use Rattle.card.specs.Ranges.{checkSettings}
+use Rattle.card.specs.Ranges.{faultOf, checkSettings}
 
 returns : tie.Need-returns
-unfolding checkSettings
-returns c = simp (c .if1 .taken, sym (c .before .fault .ensures))
-
-returns-2 : tie.Need-returns-2
-unfolding checkSettings
-returns-2 c = simp (c .if1 .left, sym (c .before .fault .ensures))
+unfolding faultOf checkSettings
+returns c = simp (c .check .ensures)
 
 pub check-spec : {M : Type 1} → statement M
-check-spec = tie.close (tie.spec (λ c κs. search needs) returns returns-2)
+check-spec = tie.close (tie.spec (λ c κs. search needs) returns)

@@ -1,10 +1,10 @@
 use borrow.Author.Needs.{needs}
-use Rattle.card.proofs.ranges.settings_inside.Statement.{statement}
-use Rattle.card.proofs.ranges.settings_inside.Tie as tie
+use Rattle.card.proofs.Kind.is_in_range.Statement.{statement}
+use Rattle.card.proofs.Kind.is_in_range.Tie as tie
 use Rattle.card.specs.Ranges.{settingsInside}
 
-byte-inside-requires : tie.Need-byte-inside-requires
-byte-inside-requires c κs = search needs
+vmax-inside-requires : tie.Need-vmax-inside-requires
+vmax-inside-requires c κs = search needs
 
 tick-inside-requires : tie.Need-tick-inside-requires
 tick-inside-requires c κs = search needs
@@ -28,11 +28,11 @@ returns : tie.Need-returns
 unfolding settingsInside
 returns c = cc
 
-pub settings-inside-spec : {M : Type 1} → statement M
-settings-inside-spec =
+pub is-in-range-spec : {M : Type 1} → statement M
+is-in-range-spec =
     tie.close
     (tie.spec
-    byte-inside-requires
+    vmax-inside-requires
     tick-inside-requires
     bts-inside-requires
     rows-inside-requires

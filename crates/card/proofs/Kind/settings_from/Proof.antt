@@ -1,6 +1,6 @@
 use borrow.Author.Needs.{needs}
-use Rattle.card.proofs.layout.settings_from.Statement.{statement}
-use Rattle.card.proofs.layout.settings_from.Tie as tie
+use Rattle.card.proofs.Kind.settings_from.Statement.{statement}
+use Rattle.card.proofs.Kind.settings_from.Tie as tie
 use Rattle.card.specs.Reading.{settingsFrom}
 
 returns : tie.Need-returns

@@ -1,0 +1,111 @@
+-- Versions and their lengths; and each setting of an area is in range exactly when its byte or bytes are.
+use Prim.Native.Nat.{ℕ, _+_, _*_, _/_, _%_, _≤_, _<_}
+use native.Mathlib.Omega.{arith}
+use native.Mathlib.Nat.{add-assoc}
+use mathlib.Core.Path.{_≡_, refl, sym}
+use mathlib.Core.Bool.{Bool, true, false}
+use mathlib.Core.List.{List}
+use mathlib.Core.Logic.{_⊎_, ⊎-elim, inl, inr}
+use lib.Dec.{eqb, lit≤}
+use lib.ListN.{length}
+use borrow.Author.Tests.{eqb-true, eqb-false, eq-eqb, ne-eqb}
+use Rattle.leaf.specs.Choosing.{pick}
+use Rattle.leaf.specs.Bytes.{byte, word}
+use Rattle.card.specs.Card.{lengthOf, rowAt, reminds}
+use Rattle.card.specs.Reading.{kept, functionsFrom, settingsFrom}
+use Rattle.card.specs.Plain.{Within, Vmax, Tick, Bts, Initial, Last, Drop, Functions, X, Y, place, rowOf, RangesMet, BytesMet, Known, LengthOf, HeaderMet}
+use Rattle.card.specs.declared.Kind.{Kind}
+use Rattle.card.proofs.Listed.{from-at}
+
+-- ---- versions and their lengths
+
+pub version-cases : {v : ℕ} → Known v → (v ≡ 1) ⊎ (v ≡ 2)
+version-cases {v} known = cases (eqb v 1) refl
+  where
+    cases : (t : Bool) → eqb v 1 ≡ t → (v ≡ 1) ⊎ (v ≡ 2)
+    cases true e = inl (eqb-true v 1 e)
+    cases false e = let n = eqb-false v 1 e in inr (omega (arith, known .0, known .1))
+
+-- a version's length is the definition's
+pub length-is : (v : ℕ) → LengthOf v (lengthOf v)
+length-is v = (λ one. rw one, λ two. rw two)
+
+pub length-only : {v n : ℕ} → Known v → LengthOf v n → n ≡ lengthOf v
+length-only known l = ⊎-elim (λ one. rw one (l .0 one)) (λ two. rw two (l .1 two)) (version-cases known)
+
+pub length-low : (v : ℕ) → 39 ≤ lengthOf v
+length-low v = cases (eqb v 1)
+  where
+    cases : (t : Bool) → 39 ≤ pick t 39 44
+    cases true = lit≤ tt
+    cases false = lit≤ tt
+
+module _ (area : List ℕ) (h : ℕ) where
+  pub card-version : HeaderMet area h → Known (byte area 2)
+  card-version m = (m .version .0, omega (arith, m .version .1, m .known .1))
+
+  -- the whole record is there
+  pub record-there : HeaderMet area h → lengthOf (byte area 2) ≤ length area
+  record-there m = omega (arith, length-only (card-version m) (m .stated), m .whole)
+
+-- ---- the settings of an area, on a card of any kind
+
+-- X, or Y, is looked at where bit 2 is on, and else 0
+kept-met : (f lo hi x : ℕ) → (f / 4 % 2 ≡ 1 → Within lo hi x)
+    → (f / 4 % 2 ≡ 1 → Within lo hi (kept (reminds f) x)) × (f / 4 % 2 ≡ 0 → kept (reminds f) x ≡ 0)
+kept-met f lo hi x m = (λ on. rw (eq-eqb _ _ on) (m on), λ off. rw (ne-eqb (f / 4 % 2) 1 (λ on. omega arith)))
+
+module _ (kind : Kind) (v : ℕ) (area : List ℕ) where
+  functions-1 : v ≡ 1 → functionsFrom kind v area ≡ 0
+  unfolding functionsFrom
+  functions-1 e = rw e
+
+  functions-2 : v ≡ 2 → functionsFrom kind v area ≡ byte area (place kind Functions)
+  unfolding functionsFrom
+  functions-2 e = rw e
+
+  -- a row of them is the one that begins at its place
+  row-at : (row : ℕ) → row < 8 → rowOf (settingsFrom kind v area) row ≡ rowAt area (place kind (Initial row))
+  unfolding settingsFrom
+  row-at row of =
+      from-at (λ k. rowOf (settingsFrom kind v area) k ≡ rowAt area (place kind (Initial k))) 0 8
+      (refl, (refl, (refl, (refl, (refl, (refl, (refl, (refl, tt)))))))) row (omega arith) of
+
+  reminder : Known v → BytesMet kind v area → functionsFrom kind v area / 4 % 2 ≡ 1
+      → Within 2 6000 (word area (place kind X)) × Within 1 5000 (word area (place kind Y))
+  reminder known m on =
+      ⊎-elim (λ one. absurd (omega (arith, functions-1 one))) (λ two. m .reminder two (rw (functions-2 two) at on)) (version-cases known)
+
+  -- the settings are in range where the bytes are
+  pub settings-met : Known v → BytesMet kind v area → RangesMet kind v (settingsFrom kind v area)
+  unfolding settingsFrom rowAt
+  settings-met known m Vmax of = m .vmax
+  settings-met known m Tick of = m .tick
+  settings-met known m Bts of = m .bts
+  settings-met known m (Initial row) of = rw (row-at row of) (m .initial row of)
+  settings-met known m (Last row) of = rw (row-at row of, add-assoc) (m .last row of)
+  settings-met known m (Drop row) of = rw (row-at row of, add-assoc) (m .drop row of)
+  settings-met known m Functions of =
+      (functions-1, ⊎-elim (λ one. rw (functions-1 one) (lit≤ tt)) (λ two. rw (functions-2 two) (m .functions two)) (version-cases known))
+  settings-met known m X of =
+      kept-met (functionsFrom kind v area) 2 6000 (word area (place kind X)) (λ on. reminder known m on .0)
+  settings-met known m Y of =
+      kept-met (functionsFrom kind v area) 1 5000 (word area (place kind Y)) (λ on. reminder known m on .1)
+
+  -- and the bytes are where the settings are
+  pub bytes-met : RangesMet kind v (settingsFrom kind v area) → BytesMet kind v area
+  unfolding settingsFrom rowAt
+  bytes-met m =
+      record {
+        vmax = m Vmax tt;
+        tick = m Tick tt;
+        bts = m Bts tt;
+        initial = λ row of. rw (row-at row of) at (m (Initial row) of);
+        last = λ row of. rw (row-at row of, add-assoc) at (m (Last row) of);
+        drop = λ row of. rw (row-at row of, add-assoc) at (m (Drop row) of);
+        functions = λ two. rw (functions-2 two) at (m Functions tt .1);
+        reminder = λ two on.
+            let f = functions-2 two in
+            let there = rw (← f) at on in
+            (rw (f, eq-eqb _ _ on) at (m X tt .0 there), rw (f, eq-eqb _ _ on) at (m Y tt .0 there));
+      }

@@ -1,0 +1,218 @@
+-- The settings of a card in a list, lowest place first, and what the first of them that fails says of all: once for every kind.
+use Prim.Native.Nat.{ℕ, zero, suc, _+_, _*_, _/_, _%_, _≤_, _<_}
+use native.Mathlib.Omega.{arith}
+use mathlib.Core.Path.{_≡_, refl, sym, _∙_}
+use mathlib.Core.Bool.{Bool, true, false, _&&_}
+use mathlib.Core.List.{List, [], _∷_}
+use lib.Dec.{T, leb, ltb, eqb}
+use borrow.Author.Tests.{le-leb, leb-true, ltb-true, eqb-true, eqb-false, eq-eqb, ne-eqb}
+use Rattle.leaf.specs.Choosing.{pick, and-split}
+use Rattle.leaf.specs.Numbers.{within}
+use Rattle.leaf.specs.Checks.{Check, orFault, firstBad, numbered, found-stays}
+use Rattle.card.specs.Card.{reminds}
+use Rattle.card.specs.Ranges.{placeOf, functionsTop, rangedIf, settingsChecks}
+use Rattle.card.specs.Plain.{Within, Setting, Vmax, Tick, Bts, Initial, Last, Drop, Functions, X, Y, OfCard, offset, rowOf, SettingMet}
+use Rattle.card.specs.declared.Kind.{Kind}
+use Rattle.card.specs.declared.Settings.{Settings}
+
+-- ---- all of a list
+
+abbrev pub All : {A : Type 0} → (A → Type 0) → List A → Type 0
+All P [] = Unit
+All P (a ∷ rest) = P a × All P rest
+
+pub all-map : {A : Type 0} {P Q : A → Type 0} → ((a : A) → P a → Q a) → (xs : List A) → All P xs → All Q xs
+all-map f [] h = tt
+all-map f (a ∷ rest) h = (f a (h .0), all-map f rest (h .1))
+
+-- what holds of n numbers from one on holds of each
+abbrev pub From : (ℕ → Type 0) → ℕ → ℕ → Type 0
+From P k zero = Unit
+From P k (suc n) = P k × From P (k + 1) n
+
+pub from-at : (P : ℕ → Type 0) (k n : ℕ) → From P k n → (i : ℕ) → k ≤ i → i < k + n → P i
+from-at P k zero h i low high = absurd (omega arith)
+from-at P k (suc n) h i low high = cases (eqb k i) refl (λ apart. from-at P (k + 1) n (h .1) i (omega arith) (omega arith))
+  where
+    cases : (t : Bool) → eqb k i ≡ t → ((k ≡ i → ⊥) → P i) → P i
+    cases true e r = rw (← eqb-true k i e) (h .0)
+    cases false e r = r (eqb-false k i e)
+
+-- ---- things that have an offset and a test each
+
+module _ {A : Type 0} (number : ℕ → ℕ) (offsetOf : A → ℕ) (test : A → Bool) where
+  -- the checks of a list of them
+  abbrev pub checksFor : List A → List Check
+  checksFor [] = []
+  checksFor (a ∷ rest) = (number (offsetOf a), test a) ∷ checksFor rest
+
+  pub all-numbered : (xs : List A) → All (λ a. number (offsetOf a) ≡ 0 → ⊥) xs → T (numbered (checksFor xs))
+  all-numbered [] h = tt
+  all-numbered (a ∷ rest) h = rw (ne-eqb (number (offsetOf a)) 0 (h .0)) (all-numbered rest (h .1))
+
+  -- lowest offset first
+  abbrev above : ℕ → List A → Bool
+  above low [] = true
+  above low (a ∷ rest) = ltb low (offsetOf a) && above low rest
+
+  abbrev pub ascending : List A → Bool
+  ascending [] = true
+  ascending (a ∷ rest) = above (offsetOf a) rest && ascending rest
+
+  none-lower : (low : ℕ) (xs : List A) → above low xs ≡ true → All (λ a. offsetOf a < low → test a ≡ true) xs
+  none-lower low [] h = tt
+  none-lower low (a ∷ rest) h =
+      let p = and-split (ltb low (offsetOf a)) (above low rest) h in
+      (λ lower. absurd (omega (arith, ltb-true low (offsetOf a) (p .0))), none-lower low rest (p .1))
+
+  -- a thing of the list that fails, where every one at a lower offset passes
+  pub record First (P : A → Type 0) (xs : List A) (n : ℕ) : Type 0 where
+    pub the : A
+    pub one : P the
+    pub stands : number (offsetOf the) ≡ n
+    pub fails : test the ≡ false
+    pub lower : All (λ a. offsetOf a < offsetOf the → test a ≡ true) xs
+
+  -- a number that is given is that of such a thing
+  pub first : (P : A → Type 0) (xs : List A) (n : ℕ) → All P xs → ascending xs ≡ true → T (numbered (checksFor xs))
+      → firstBad 0 (checksFor xs) ≡ n → (n ≡ 0 → ⊥) → First P xs n
+  unfolding orFault
+  first P [] n ps up p h z = absurd (z (sym h))
+  first P (a ∷ rest) n ps up p h z =
+      cases (test a) refl (eqb (number (offsetOf a)) 0) refl p h (λ q e. first P rest n (ps .1) (and-split (above (offsetOf a) rest) (ascending rest) up .1) q e z)
+    where
+      cases : (t : Bool) → test a ≡ t → (o : Bool) → eqb (number (offsetOf a)) 0 ≡ o → T (pick o false (numbered (checksFor rest)))
+          → firstBad (pick t 0 (number (offsetOf a))) (checksFor rest) ≡ n
+          → (T (numbered (checksFor rest)) → firstBad 0 (checksFor rest) ≡ n → First P rest n) → First P (a ∷ rest) n
+      cases t e true o p h r = absurd p
+      cases true e false o p h r =
+          let f = r p h in
+          record { the = f .the; one = f .one; stands = f .stands; fails = f .fails; lower = (λ _. e, f .lower) }
+      cases false e false o p h r =
+          record {
+            the = a;
+            one = ps .0;
+            stands = sym (found-stays (number (offsetOf a)) (checksFor rest) o) ∙ h;
+            fails = e;
+            lower = (λ lower. absurd (omega arith), none-lower (offsetOf a) rest (and-split (above (offsetOf a) rest) (ascending rest) up .0));
+          }
+
+-- ---- the settings
+
+-- rows from a number on, as many as n, and what comes behind them
+abbrev ofRows : ℕ → ℕ → List Setting → List Setting
+ofRows row zero rest = rest
+ofRows row (suc n) rest = Initial row ∷ Last row ∷ Drop row ∷ ofRows (row + 1) n rest
+
+abbrev pub settings : List Setting
+settings = Vmax ∷ Tick ∷ Bts ∷ ofRows 0 8 (Functions ∷ X ∷ Y ∷ [])
+
+-- what holds of the whole list holds of each setting that a card has, and the other way round
+module _ (P : Setting → Type 0) where
+  behind : (row n : ℕ) (rest : List Setting) → All P (ofRows row n rest) → All P rest
+  behind row zero rest h = h
+  behind row (suc n) rest h = behind (row + 1) n rest (h .1 .1 .1)
+
+  abbrev OfRow : ℕ → Type 0
+  OfRow row = P (Initial row) × P (Last row) × P (Drop row)
+
+  among : (row n : ℕ) (rest : List Setting) → All P (ofRows row n rest) → From OfRow row n
+  among row zero rest h = tt
+  among row (suc n) rest h = ((h .0, h .1 .0, h .1 .1 .0), among (row + 1) n rest (h .1 .1 .1))
+
+  pub each : All P settings → (setting : Setting) → OfCard setting → P setting
+  each h Vmax of = h .0
+  each h Tick of = h .1 .0
+  each h Bts of = h .1 .1 .0
+  each h (Initial row) of = from-at OfRow 0 8 (among 0 8 (Functions ∷ X ∷ Y ∷ []) (h .1 .1 .1)) row (omega arith) of .0
+  each h (Last row) of = from-at OfRow 0 8 (among 0 8 (Functions ∷ X ∷ Y ∷ []) (h .1 .1 .1)) row (omega arith) of .1
+  each h (Drop row) of = from-at OfRow 0 8 (among 0 8 (Functions ∷ X ∷ Y ∷ []) (h .1 .1 .1)) row (omega arith) of .2
+  each h Functions of = behind 0 8 (Functions ∷ X ∷ Y ∷ []) (h .1 .1 .1) .0
+  each h X of = behind 0 8 (Functions ∷ X ∷ Y ∷ []) (h .1 .1 .1) .1 .0
+  each h Y of = behind 0 8 (Functions ∷ X ∷ Y ∷ []) (h .1 .1 .1) .1 .1 .0
+
+  rows : ((setting : Setting) → OfCard setting → P setting) → (row n : ℕ) (rest : List Setting) → row + n ≤ 8 → All P rest → All P (ofRows row n rest)
+  rows h row zero rest high r = r
+  rows h row (suc n) rest high r =
+      (h (Initial row) (omega arith), (h (Last row) (omega arith), (h (Drop row) (omega arith), rows h (row + 1) n rest (omega arith) r)))
+
+  pub every : ((setting : Setting) → OfCard setting → P setting) → All P settings
+  every h = (h Vmax tt, (h Tick tt, (h Bts tt, rows h 0 8 (Functions ∷ X ∷ Y ∷ []) (omega arith) (h Functions tt, (h X tt, (h Y tt, tt))))))
+
+-- ---- the test of each, on a card of a kind
+
+abbrev pub test : Kind → ℕ → Settings → Setting → Bool
+test kind v s Vmax = within (kind .«vmax_lowest») (kind .«vmax_highest») (s .vmax)
+test kind v s Tick = within 10 1000 (s .tick)
+test kind v s Bts = within 1 200 (s .bts)
+test kind v s (Initial row) = within 1 200 (rowOf s row .initial)
+test kind v s (Last row) = within 1 (rowOf s row .initial) (rowOf s row .last)
+test kind v s (Drop row) = leb 1 (rowOf s row .drop)
+test kind v s Functions = leb (s .functions) (functionsTop v)
+test kind v s X = rangedIf (reminds (s .functions)) 2 6000 (s .x)
+test kind v s Y = rangedIf (reminds (s .functions)) 1 5000 (s .y)
+
+-- the definition's list of checks is that of the settings
+pub listed : (kind : Kind) (v : ℕ) (s : Settings) → settingsChecks kind v s ≡ checksFor (placeOf kind) offset (test kind v s) settings
+listed kind v s = refl
+
+pub in-order : (kind : Kind) (v : ℕ) (s : Settings) → ascending (placeOf kind) offset (test kind v s) settings ≡ true
+in-order kind v s = refl
+
+-- a range
+pub within-met : {lo hi x : ℕ} → within lo hi x ≡ true → Within lo hi x
+within-met {lo} {hi} {x} h = let p = and-split (leb lo x) (leb x hi) h in (leb-true lo x (p .0), leb-true x hi (p .1))
+
+pub met-within : {lo hi x : ℕ} → lo ≤ x → x ≤ hi → within lo hi x ≡ true
+met-within {lo} {hi} {x} l h = rw (le-leb lo x l) (le-leb x hi h)
+
+functions-out : (v f : ℕ) → leb f (functionsTop v) ≡ true → (v ≡ 1 → f ≡ 0) × (f ≤ 15)
+functions-out v f h = cases (eqb v 1) refl h
+  where
+    cases : (t : Bool) → eqb v 1 ≡ t → leb f (pick t 0 15) ≡ true → (v ≡ 1 → f ≡ 0) × (f ≤ 15)
+    cases true e h = let l : f ≤ 0 = leb-true f 0 h in (λ _. omega arith, omega arith)
+    cases false e h = (λ one. absurd (eqb-false v 1 e one), leb-true f 15 h)
+
+functions-in : (v f : ℕ) → (v ≡ 1 → f ≡ 0) → f ≤ 15 → leb f (functionsTop v) ≡ true
+functions-in v f none high = cases (eqb v 1) refl
+  where
+    cases : (t : Bool) → eqb v 1 ≡ t → leb f (pick t 0 15) ≡ true
+    cases true e = rw (none (eqb-true v 1 e))
+    cases false e = le-leb f 15 high
+
+-- X, or Y, by bit 2 of the functions
+ranged-out : (f lo hi x : ℕ) → rangedIf (reminds f) lo hi x ≡ true → (f / 4 % 2 ≡ 1 → Within lo hi x) × (f / 4 % 2 ≡ 0 → x ≡ 0)
+ranged-out f lo hi x h = cases (reminds f) refl h
+  where
+    cases : (on : Bool) → reminds f ≡ on → rangedIf on lo hi x ≡ true → (f / 4 % 2 ≡ 1 → Within lo hi x) × (f / 4 % 2 ≡ 0 → x ≡ 0)
+    cases true e h = let on : f / 4 % 2 ≡ 1 = eqb-true _ _ e in (λ _. within-met h, λ off. absurd (omega arith))
+    cases false e h = (λ on. absurd (eqb-false _ _ e on), λ _. eqb-true x 0 h)
+
+ranged-in : (f lo hi x : ℕ) → (f / 4 % 2 ≡ 1 → Within lo hi x) × (f / 4 % 2 ≡ 0 → x ≡ 0) → rangedIf (reminds f) lo hi x ≡ true
+ranged-in f lo hi x m = cases (reminds f) refl
+  where
+    cases : (on : Bool) → reminds f ≡ on → rangedIf on lo hi x ≡ true
+    cases true e = let r = m .0 (eqb-true _ _ e) in met-within (r .0) (r .1)
+    cases false e = let n = eqb-false (f / 4 % 2) 1 e in eq-eqb x 0 (m .1 (omega arith))
+
+pub test-met : (kind : Kind) (v : ℕ) (s : Settings) (setting : Setting) → test kind v s setting ≡ true → SettingMet kind v s setting
+test-met kind v s Vmax h = within-met h
+test-met kind v s Tick h = within-met h
+test-met kind v s Bts h = within-met h
+test-met kind v s (Initial row) h = within-met h
+test-met kind v s (Last row) h = within-met h
+test-met kind v s (Drop row) h = leb-true _ _ h
+test-met kind v s Functions h = functions-out v (s .functions) h
+test-met kind v s X h = ranged-out (s .functions) 2 6000 (s .x) h
+test-met kind v s Y h = ranged-out (s .functions) 1 5000 (s .y) h
+
+pub met-test : (kind : Kind) (v : ℕ) (s : Settings) (setting : Setting) → SettingMet kind v s setting → test kind v s setting ≡ true
+met-test kind v s Vmax m = met-within (m .0) (m .1)
+met-test kind v s Tick m = met-within (m .0) (m .1)
+met-test kind v s Bts m = met-within (m .0) (m .1)
+met-test kind v s (Initial row) m = met-within (m .0) (m .1)
+met-test kind v s (Last row) m = met-within (m .0) (m .1)
+met-test kind v s (Drop row) m = le-leb _ _ m
+met-test kind v s Functions m = functions-in v (s .functions) (m .0) (m .1)
+met-test kind v s X m = ranged-in (s .functions) 2 6000 (s .x) m
+met-test kind v s Y m = ranged-in (s .functions) 1 5000 (s .y) m
