@@ -12,6 +12,8 @@ pub mod Lines
 pub mod Prints
 pub mod Demand3
 pub mod ShutOut
-pub mod Lazy
+pub mod LazyLogics
 pub mod Starred
+pub mod LazyCards
+pub mod LazyRides
 pub mod LazyPrints

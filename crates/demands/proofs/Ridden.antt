@@ -58,13 +58,21 @@ shown-only s (x ∷ xs) l (paper.ShownAs.ended it) = rw (samples-exactly s x _ .
 -- ---- the ride
 
 module _ (settings : Settings) (recording : List ℕ) where
-  good : (n : ℕ) → RecordingMet recording n → startRide settings recording ≡ openSession settings (trainOf recording)
+  pub good : (n : ℕ) → RecordingMet recording n → startRide settings recording ≡ openSession settings (trainOf recording)
   unfolding startRide
   good n m = rw (met-good recording n m .0)
 
   bad : goodRecording recording ≡ false → startRide settings recording ≡ refused 14
   unfolding startRide
   bad e = rw e
+
+  -- a recording that is none is 14
+  pub none-good : ((n : ℕ) → RecordingMet recording n → ⊥) → startRide settings recording ≡ refused 14
+  none-good none = cases (goodRecording recording) refl
+    where
+      cases : (t : Bool) → goodRecording recording ≡ t → startRide settings recording ≡ refused 14
+      cases true e = absurd (none _ (good-met recording e))
+      cases false e = bad e
 
   ridden-is : RiddenAs settings recording (wholeRide settings recording)
   unfolding wholeRide
@@ -88,11 +96,7 @@ module _ (settings : Settings) (recording : List ℕ) where
 
   ridden-only : (a : Answer (List (Answer Told))) → RiddenAs settings recording a → wholeRide settings recording ≡ a
   unfolding wholeRide
-  ridden-only a (paper.RiddenAs.refused-14 none) = cases (goodRecording recording) refl
-    where
-      cases : (t : Bool) → goodRecording recording ≡ t → shownFrom (startRide settings recording) (samplesOf recording) ≡ refused 14
-      cases true e = absurd (none _ (good-met recording e))
-      cases false e = rw (bad e)
+  ridden-only a (paper.RiddenAs.refused-14 none) = rw (none-good none)
   ridden-only a (paper.RiddenAs.refused-5 {n = n} m o) = rw (good n m, openings-exactly settings (trainOf recording) _ .1 o)
   ridden-only a (paper.RiddenAs.refused-7 {n = n} m o) = rw (good n m, openings-exactly settings (trainOf recording) _ .1 o)
   ridden-only a (paper.RiddenAs.ridden {n = n} {s = s} {shown = l} m o later) =

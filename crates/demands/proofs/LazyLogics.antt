@@ -1,4 +1,4 @@
--- The lazy programs are what they are said to be, and none meets what is stated.
+-- The lazy logics are of the kinds that are shut out, and said of all samples the kinds would not have them.
 use Prim.Native.Nat.{ℕ}
 use native.Mathlib.Omega.{arith}
 use mathlib.Core.Bool.{Bool, true, false}
