@@ -6,7 +6,6 @@ use mathlib.Core.Path.{_≡_, refl, ap}
 use mathlib.Core.List.{List}
 use lib.Dec.{lit≤, lit<}
 use Rattle.leaf.specs.Choosing.{pick}
-use Rattle.leaf.specs.Bytes.{byte, word}
 use Rattle.leaf.specs.Answers.{Answer, given, refused, refusedAt, isGiven}
 use Rattle.card.specs.declared.Settings.{Settings}
 use Rattle.card.specs.Card.{rowAt, Same}
@@ -17,7 +16,6 @@ use Rattle.card.proofs.Exactly.{card-settings}
 use Rattle.card.proofs.Accepted.{accepted-only}
 use Rattle.card.proofs.Same.{same-word, same-row, same-part}
 use Rattle.session.specs.declared.Sample.{Sample}
-use Rattle.session.specs.declared.Session.{Session}
 use Rattle.session.specs.declared.Outcome.{Outcome}
 use Rattle.session.specs.Types.{typeAllowed}
 use Rattle.session.specs.Session.{openingVersion, freshSession, openedAfter, openSession, settingsInside}

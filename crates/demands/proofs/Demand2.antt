@@ -1,5 +1,4 @@
 -- Demand 2 holds.
-use mathlib.Core.Path.{_≡_, refl}
 use Rattle.card.proofs.Accepted.{accepted-when, accepted-only}
 use Rattle.card.proofs.RoundTrip.{round-trip}
 use Rattle.session.specs.Session.{ranOf}

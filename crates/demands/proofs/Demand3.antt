@@ -29,7 +29,7 @@ use Rattle.printed.proofs.Silence.{print-silence}
 use Rattle.demands.specs.Runs.{rideOf, firstOf}
 use Rattle.demands.specs.Speaks.{untilSpeaks}
 use Rattle.demands.specs.Examples.{settings-R, settings-P, card-R}
-use Rattle.demands.specs.Demand3.{SameSpeaking, SameWithout, firstLines, Demand3, HypothesesMet, Partings}
+use Rattle.demands.specs.Demand3.{SameWithout, firstLines, Demand3, HypothesesMet, Partings}
 use Rattle.demands.proofs.Later.{later}
 use Rattle.demands.proofs.Alike.{alike-fresh}
 use Rattle.demands.proofs.Cards.{its-settings, its-range, common, opens, rides-alike}

@@ -3,9 +3,9 @@ use Prim.Native.Nat.{ℕ}
 use native.Mathlib.Omega.{arith}
 use mathlib.Core.Bool.{Bool, true, false}
 use mathlib.Core.List.{List}
-use mathlib.Core.Path.{_≡_, refl, sym, _∙_}
+use mathlib.Core.Path.{_≡_, refl, _∙_}
 use lib.Dec.{T, eqb}
-use borrow.Author.Tests.{eq-eqb, eqb-false}
+use borrow.Author.Tests.{eqb-false}
 use Rattle.leaf.specs.Choosing.{pick}
 use Rattle.leaf.specs.Bytes.{byte, word}
 use Rattle.leaf.specs.Checks.{Check, orFault, firstBad, numbered, FirstFault, first-fault}
@@ -13,9 +13,9 @@ use Rattle.leaf.specs.Answers.{Answer, given, refused, refusedAt}
 use Rattle.card.specs.declared.Settings.{Settings}
 use Rattle.card.specs.Card.{baseKind, rowAt}
 use Rattle.card.specs.Ranges.{checksOf, settingsFault, faultOf}
-use Rattle.card.specs.Plain.{CardMet, WriteMet, SettingsMet}
+use Rattle.card.specs.Plain.{SettingsMet}
 use Rattle.card.specs.Reading.{functionsFrom, settingsFrom, settingsOf, cardChecks, answerBy, readCard}
-use Rattle.card.specs.Writing.{recordChecks, writeCard, written}
+use Rattle.card.specs.Writing.{recordChecks, writeCard}
 use Rattle.card.specs.Laws.{placed-by}
 use Rattle.card.specs.CardA.{card-A, cardA-at}
 use Rattle.card.proofs.InRange.{met-fault}

@@ -6,7 +6,6 @@ use mathlib.Core.List.{List, [], _∷_}
 use mathlib.Core.Path.{_≡_, refl, sym, _∙_}
 use Rattle.leaf.specs.Bytes.{long}
 use Rattle.leaf.specs.Answers.{Answer, given, refused}
-use Rattle.card.specs.declared.Settings.{Settings}
 use Rattle.card.specs.CardA.{cardA}
 use Rattle.step.specs.declared.Answer.{Answer as Told}
 use Rattle.session.specs.Session.{answerTo}

@@ -12,8 +12,8 @@ pub mod Lines
 pub mod Prints
 pub mod Demand3
 pub mod ShutOut
-pub mod LazyLogics
 pub mod Starred
+pub mod LazyLogics
 pub mod LazyCards
 pub mod LazyRides
 pub mod LazyPrints

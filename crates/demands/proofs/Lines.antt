@@ -1,5 +1,5 @@
 -- A printed line ends with its only newline, so that the first lines of a text are its first lines, whatever follows.
-use Prim.Native.Nat.{ℕ, zero, suc, _+_, _/_, _%_, _<_}
+use Prim.Native.Nat.{ℕ, zero, suc, _+_, _/_, _%_}
 use native.Mathlib.Omega.{arith}
 use mathlib.Core.Bool.{Bool, true, false, not, _&&_}
 use mathlib.Core.List.{List, [], _∷_, _++_, append-nil, append-assoc, flatten}
@@ -11,7 +11,7 @@ use Rattle.leaf.specs.Choosing.{pick, and-split}
 use Rattle.leaf.specs.Answers.{Answer, given, refused, refusedAt}
 use Rattle.card.specs.Reading.{readCard}
 use Rattle.step.specs.declared.Answer.{Answer as Told}
-use Rattle.text.specs.Decimal.{newline, blank, naught, digitOf, unitOf, upperOf, lowerOf, decimal, ended, line}
+use Rattle.text.specs.Decimal.{newline, blank, naught, digitOf, unitOf, upperOf, lowerOf, decimal, line}
 use Rattle.printed.specs.declared.Columns.{Columns}
 use Rattle.printed.specs.declared.Columns.the-variants.{Paper, Whole}
 use Rattle.printed.specs.Printed.{paperWords, wholeWords, refusedWord, heading, refusedLine, columnsOf, highest, printedRide, linesFrom, rideLines, rideOn, printedLines}

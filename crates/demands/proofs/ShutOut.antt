@@ -1,12 +1,12 @@
 -- None of what is shut out by name equals the definitions: samples on which S and the session differ, and inputs that are accepted.
 use Prim.Native.Nat.{ℕ}
 use native.Mathlib.Omega.{arith}
-use mathlib.Core.Bool.{true, false, false≢true}
+use mathlib.Core.Bool.{true, false≢true}
 use mathlib.Core.List.{List, [], _∷_, _++_}
 use mathlib.Core.Path.{_≡_, refl, ap, sym, _∙_}
 use lib.Ieee.{nan, ofBits, ofInt, le, mul, sub}
 use Rattle.leaf.specs.Bytes.{byte, long}
-use Rattle.leaf.specs.Answers.{Answer, given, refusedAt, isGiven}
+use Rattle.leaf.specs.Answers.{given, refusedAt, isGiven}
 use Rattle.card.specs.declared.Settings.{Settings}
 use Rattle.card.specs.Card.{baseKind}
 use Rattle.card.specs.Plain.{FirstOut, ReadAs, WrittenAs}

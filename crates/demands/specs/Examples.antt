@@ -1,9 +1,8 @@
 -- The cards, samples and answers of the examples, in numbers.
 use Prim.Native.Nat.{ℕ, zero, suc}
-use mathlib.Core.Bool.{Bool, true, false}
+use mathlib.Core.Bool.{Bool, false}
 use mathlib.Core.List.{List, [], _∷_, _++_}
 use Rattle.leaf.specs.Answers.{Answer, given, refused, refusedAt}
-use Rattle.leaf.specs.declared.Refusal.the-variants.{Number}
 use Rattle.card.specs.declared.Row.{Row}
 use Rattle.card.specs.declared.Settings.{Settings}
 use Rattle.card.specs.CardA.{cardA}
