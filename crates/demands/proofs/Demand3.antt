@@ -11,9 +11,8 @@ use Rattle.leaf.specs.Bytes.{byte}
 use Rattle.leaf.specs.Choosing.{pick}
 use Rattle.leaf.specs.Answers.{given, refused}
 use Rattle.card.specs.declared.Settings.{Settings}
-use Rattle.card.specs.Card.{speaks}
+use Rattle.card.specs.Card.{speaks, Same}
 use Rattle.card.specs.Reading.{readCard}
-use Rattle.card.proofs.Same.{Same}
 use Rattle.card.proofs.Silence.{silence}
 use Rattle.card.proofs.Versions.{knows-1-refuses-2, same-card}
 use Rattle.step.specs.declared.Answer.{Answer}

@@ -1,4 +1,6 @@
 pub mod Computes
+pub mod Answered
+pub mod Ridden
 pub mod Demand1
 pub mod Demand2
 pub mod Later
