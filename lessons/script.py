@@ -1,9 +1,11 @@
-"""Reads what a teacher writes: card texts and ride scripts. Used by make and check.
+"""Reads what a teacher writes: card texts, ride scripts and expected lines. Used by make and check.
 
-lessons/README.md describes both notations. Nothing here knows a rule of the desk: a script is turned into bytes
-as it stands, so a ride that the desk refuses can be written too.
+lessons/README.md describes the notation. Of the desk's rules this knows one thing only: which ride the desk refuses, and
+at which line of the script, so that a slip is told before the ride is made.
 """
 
+import dataclasses
+import fractions
 import pathlib
 import sys
 
@@ -13,16 +15,61 @@ BUTTONS = [
     "announcement", "preannouncement", "caution", "conditional clear", "before-stop", "crossing",
     "limit", "override", "increase", "hide", "rearm",
 ]
+BEACONS = 11
+CONV, BTS = 1, 2
+TYPES = [80, 90, 100, 120, 140, 160, 180, 200]  # km/h, types 1 to 8
+MOST_SAMPLES = 10_000
+MOST_TRAVEL = 100_000  # tenths of a millimetre in a sample
+EXTRA = ("icon", "standing")
+
+
+@dataclasses.dataclass
+class Card:
+    """A card: its name, with what is changed in it, and its bytes."""
+    name: str
+    data: bytes
+
+    def vmax(self):
+        return self.data[3]
+
+    def tick(self):
+        return int.from_bytes(self.data[4:6], "big")
+
+
+@dataclasses.dataclass
+class Ride:
+    """A ride: its samples as (pulses, beacon, buttons mask, mode), each with its line in the script."""
+    name: str
+    path: pathlib.Path
+    card: Card = None
+    kind: int = None
+    kind_line: int = 1
+    samples: list = dataclasses.field(default_factory=list)
+    sample_lines: list = dataclasses.field(default_factory=list)
+    expected: list = dataclasses.field(default_factory=list)
+    refused: int = None
+
+
+# ---- texts
+
+def shown(path):
+    """A path as a reader of the repository knows it."""
+    path = path.resolve()
+    return path.relative_to(HERE.parent) if path.is_relative_to(HERE.parent) else path
 
 
 def stop(path, number, why):
     """Ends the program, naming the line at fault."""
-    sys.exit(f"{path.relative_to(HERE)}:{number}: {why}")
+    sys.exit(f"{shown(path)}:{number}: {why}")
 
 
 def lines(path):
     """The lines of a text that say something: number and words, comments gone."""
-    for number, line in enumerate(path.read_text(encoding="utf-8").splitlines(), 1):
+    try:
+        text = path.read_text(encoding="utf-8")
+    except (OSError, UnicodeDecodeError):
+        sys.exit(f"cannot read {shown(path)}")
+    for number, line in enumerate(text.splitlines(), 1):
         words = line.split("#", 1)[0].split()
         if words:
             yield number, words
@@ -38,6 +85,8 @@ def whole(path, number, word, low, high):
         stop(path, number, f"{value} is not in {low}..{high}")
     return value
 
+
+# ---- cards
 
 def card_path(name):
     return HERE / "cards" / f"{name}.hex"
@@ -55,103 +104,294 @@ def card_bytes(name):
     return bytes(out)
 
 
-def cards():
-    """The names of all cards."""
-    return sorted(p.stem for p in (HERE / "cards").glob("*.hex"))
+def read_card(path, number, words):
+    """`NAME [PLACE=VALUE ..]`: a card, with the bytes at those places changed."""
+    name = words[0]
+    if not card_path(name).exists():
+        stop(path, number, f"there is no card {name}")
+    data = bytearray(card_bytes(name))
+    if len(data) < 6:
+        stop(path, number, f"card {name} has no tick length: it is {len(data)} bytes")
+    for word in words[1:]:
+        place, equals, value = word.partition("=")
+        if not equals:
+            stop(path, number, f"'{word}' is no change of a card: PLACE=VALUE")
+        place = whole(path, number, place, 0, len(data) - 1)
+        data[place] = whole(path, number, value, 0, 255)
+    return Card("-".join(words).replace("=", "-"), bytes(data))
+
+
+# ---- a line of samples
+
+NAMES = {
+    "press": {name.replace(" ", "-"): bit for bit, name in enumerate(BUTTONS)},
+    "beacon": {f"L{code}": code for code in range(1, BEACONS + 1)},
+    "mode": {"CONV": CONV, "BTS": BTS},
+}
+HIGH = {"press": 15, "beacon": 255, "mode": 255}  # what a recording has room for
+
+
+def named(path, number, kind, word):
+    """The number that a word says, or that of the name which it is."""
+    if word.isdigit():
+        return whole(path, number, word, 0, HIGH[kind])
+    for name, value in NAMES[kind].items():
+        if word.lower() == name.lower():
+            return value
+    stop(path, number, f"'{kind}' does not know '{word}': it takes {', '.join(NAMES[kind])}, or their numbers")
 
 
 def extras(path, number, words):
     """What may follow the speeds of a line: beacon, buttons mask, mode."""
-    beacon, mask, mode = 0, 0, 1
-    seen = set()
+    said = {}
     i = 0
     while i < len(words):
-        word = words[i]
-        if word in seen:
-            stop(path, number, f"'{word}' stands twice")
-        seen.add(word)
+        kind = words[i]
+        if kind not in NAMES:
+            stop(path, number, f"'{kind}' is not known here")
+        if kind in said:
+            stop(path, number, f"'{kind}' stands twice")
+        values = []
         i += 1
-        if word == "press":
-            first = i
-            while i < len(words) and words[i].isdigit():
-                mask |= 1 << whole(path, number, words[i], 0, 15)
-                i += 1
-            if i == first:
-                stop(path, number, "'press' without a button")
-        elif word in ("beacon", "mode"):
-            if i == len(words):
-                stop(path, number, f"'{word}' without a number")
-            value = whole(path, number, words[i], 0, 255)
+        while i < len(words) and words[i] not in NAMES:
+            values.append(named(path, number, kind, words[i]))
             i += 1
-            if word == "beacon":
-                beacon = value
-            else:
-                mode = value
-        else:
-            stop(path, number, f"'{word}' is not known here")
-    return beacon, mask, mode
+        if not values or (kind != "press" and len(values) > 1):
+            stop(path, number, f"'{kind}' takes {'one or more buttons' if kind == 'press' else 'one word'}")
+        said[kind] = values
+    mask = 0
+    for bit in said.get("press", []):
+        mask |= 1 << bit
+    return said.get("beacon", [0])[0], mask, said.get("mode", [CONV])[0]
 
 
-def ramp(path, number, words):
-    """The speeds of a ramp, one for each sample: FROM, FROM + STEP, .. short of TO, HOLD samples each."""
-    start = whole(path, number, words[0], 0, 65535)
-    end = whole(path, number, words[1], 0, 65535)
-    step = whole(path, number, words[2], -65535, 65535)
-    hold = whole(path, number, words[3], 1, 10000)
+def pulses(path, number, card, speed):
+    """The pulses of a speed in km/h: the nearest whole number of them, the lower where two are as near."""
+    if card is None or card.tick() == 0:
+        stop(path, number, "km/h needs a card with a tick length, said above this line")
+    exact = speed * 2500 / (9 * card.tick())
+    low = exact.numerator // exact.denominator
+    value = low if exact - low <= fractions.Fraction(1, 2) else low + 1
+    if not 0 <= value <= 65535:
+        stop(path, number, f"that speed is {value} pulses, and a sample holds 0 to 65535")
+    return value
+
+
+def kmh(path, number, word):
+    """A speed in km/h, with or without a fraction."""
+    try:
+        return fractions.Fraction(word)
+    except (ValueError, ZeroDivisionError):
+        stop(path, number, f"'{word}' is no speed")
+
+
+def steady(path, number, words, card):
+    """`SAMPLES SPEED`: the pulses of each sample, and the words behind."""
+    if not words[0].lstrip("-").isdigit():
+        stop(path, number, f"a line cannot begin with '{words[0]}': it is SAMPLES PULSES, ramp, card, type, ride, refused or expect")
+    if len(words) < 2:
+        stop(path, number, "a line is: SAMPLES PULSES, or SAMPLES SPEED km/h")
+    count = whole(path, number, words[0], 1, 65535)
+    if words[2:3] == ["km/h"]:
+        return [pulses(path, number, card, kmh(path, number, words[1]))] * count, words[3:]
+    return [whole(path, number, words[1], 0, 65535)] * count, words[2:]
+
+
+def ramp(path, number, words, card):
+    """`FROM TO STEP [km/h] HOLD`: FROM, FROM + STEP, .. short of TO, HOLD samples each, and the words behind."""
+    in_kmh = words[3:4] == ["km/h"]
+    held = words[4:] if in_kmh else words[3:]
+    if not held:
+        stop(path, number, "a ramp is: ramp FROM TO STEP HOLD, or ramp FROM TO STEP km/h HOLD")
+    if in_kmh:
+        start, end, step = (kmh(path, number, word) for word in words[:3])
+    else:
+        start = whole(path, number, words[0], 0, 65535)
+        end = whole(path, number, words[1], 0, 65535)
+        step = whole(path, number, words[2], -65535, 65535)
+    hold = whole(path, number, held[0], 1, 10000)
     if step == 0:
         stop(path, number, "a ramp needs a step")
-    speeds = range(start, end, step)
+    speeds = []
+    while (start - end) * step < 0:
+        speeds.append(pulses(path, number, card, start) if in_kmh else start)
+        start += step
+        if len(speeds) * hold > 65535:
+            stop(path, number, "this ramp has more than 65535 samples")
     if not speeds:
         stop(path, number, "this ramp has no speeds")
-    return [p for p in speeds for _ in range(hold)]
+    return [p for p in speeds for _ in range(hold)], held[1:]
 
 
-def read_ride(path):
-    """A ride script: card name, train type, and the samples as (pulses, beacon, buttons mask, mode)."""
-    card, kind, samples = None, None, []
+# ---- expected lines
+
+def read_expected(path, number, words):
+    """`n limit lamps cause`, then icon and standing as two more numbers or as icon=, standing=: (line, n, numbers, extra)."""
+    if len(words) < 4:
+        stop(path, number, "a line is: n limit lamps cause")
+    row = [whole(path, number, word, 0, 65535) for word in words[:4]]
+    extra = {}
+    if len(words) == 6 and "=" not in words[4]:
+        words = words[:4] + [f"{key}={value}" for key, value in zip(EXTRA, words[4:])]
+    for word in words[4:]:
+        key, _, value = word.partition("=")
+        if key not in EXTRA:
+            stop(path, number, f"'{word}' is not known here")
+        extra[key] = whole(path, number, value, 0, 2)
+    return number, row[0], row[1:], extra
+
+
+# ---- scripts
+
+def read_head(ride, number, words):
+    """A line `card ..`, `type N`, `refused N` or `expect ..`; False where it is none of these."""
+    word, rest = words[0], words[1:]
+    if word not in ("card", "type", "refused", "expect"):
+        return False
+    if not rest or (word in ("type", "refused") and len(rest) != 1):
+        stop(ride.path, number, f"'{word}' takes one word")
+    if word in ("card", "type") and ride.samples:
+        stop(ride.path, number, f"'{word}' belongs to the head")
+    if word == "card":
+        ride.card = read_card(ride.path, number, rest)
+    elif word == "type":
+        ride.kind, ride.kind_line = whole(ride.path, number, rest[0], 0, 255), number
+    elif word == "refused":
+        ride.refused = whole(ride.path, number, rest[0], 1, 14)
+    else:
+        ride.expected.append(read_expected(ride.path, number, rest))
+    return True
+
+
+def read_samples(ride, number, words):
+    """A line of samples: beacon and presses hold in the first of them, the mode in all."""
+    if words[0] == "ramp":
+        speeds, rest = ramp(ride.path, number, words[1:], ride.card)
+    else:
+        speeds, rest = steady(ride.path, number, words, ride.card)
+    beacon, mask, mode = extras(ride.path, number, rest)
+    for i, p in enumerate(speeds):
+        ride.samples.append((p, 0 if i else beacon, 0 if i else mask, mode))
+        ride.sample_lines.append(number)
+
+
+def read_script(path, name, expected=None):
+    """The rides of a script. A line `ride NAME` begins a ride, and what stands above the first one holds for all; a script
+    without such a line is one ride. The file of expected lines, if there is one, belongs to that."""
+    head = Ride(name, path)
+    rides = []
     for number, words in lines(path):
-        if words[0] in ("card", "type"):
-            if samples:
-                stop(path, number, f"'{words[0]}' belongs to the head")
+        ride = rides[-1] if rides else head
+        if words[0] == "ride":
             if len(words) != 2:
-                stop(path, number, f"'{words[0]}' takes one word")
-            if words[0] == "card":
-                card = words[1]
-                if not card_path(card).exists():
-                    stop(path, number, f"there is no card {card}")
-            else:
-                kind = whole(path, number, words[1], 0, 255)
-            continue
-        if words[0] == "ramp":
-            if len(words) < 5:
-                stop(path, number, "a ramp is: ramp FROM TO STEP HOLD")
-            speeds, rest = ramp(path, number, words[1:5]), words[5:]
-        else:
-            if len(words) < 2:
-                stop(path, number, "a line is: SAMPLES PULSES")
-            count = whole(path, number, words[0], 1, 10000)
-            speeds, rest = [whole(path, number, words[1], 0, 65535)] * count, words[2:]
-        beacon, mask, mode = extras(path, number, rest)
-        for i, pulses in enumerate(speeds):
-            samples.append((pulses, 0 if i else beacon, 0 if i else mask, mode))
-    if card is None or kind is None:
-        stop(path, 1, "the head needs a card and a type")
-    return card, kind, samples
+                stop(path, number, "'ride' takes one word, the ride's name")
+            if head.samples or head.expected or head.refused:
+                stop(path, number, "above the first 'ride' only card and type may stand")
+            new = f"{name}-{words[1]}"
+            if new in [r.name for r in rides]:
+                stop(path, number, f"there are two rides {words[1]}")
+            rides.append(Ride(new, path, head.card, head.kind, head.kind_line))
+        elif not read_head(ride, number, words):
+            read_samples(ride, number, words)
+    if not rides:
+        rides = [head]
+        if expected is not None and expected.exists():
+            head.expected += [read_expected(expected, number, words) for number, words in lines(expected)]
+    for ride in rides:
+        if ride.card is None or ride.kind is None:
+            stop(path, 1, "the head needs a card and a type")
+    return rides
 
 
-def head_bytes(kind, samples):
-    return (6 + 6 * len(samples)).to_bytes(4, "big") + bytes([1, kind])
+# ---- what the desk refuses
+
+def sample_fault(card, before, sample):
+    """What the desk refuses in a sample after one of mode `before`, as (number, sentence), or None."""
+    p, beacon, mask, mode = sample
+    if beacon > BEACONS:
+        return 9, f"beacon {beacon}: the beacons are 1 to {BEACONS}, and 0 is none"
+    if mask >> len(BUTTONS):
+        return 9, f"button {mask.bit_length() - 1}: the buttons are 0 to {len(BUTTONS) - 1}"
+    if mode not in (CONV, BTS):
+        return 9, f"mode {mode}: the modes are 1 (CONV) and 2 (BTS)"
+    if p * card.tick() > MOST_TRAVEL:
+        return 10, f"{p} pulses are too many: on card {card.name} a sample has at most {MOST_TRAVEL // card.tick()}"
+    if mode != before and p:
+        return 11, f"the mode changes in a sample with {p} pulses: it can change only while standing"
+    return None
 
 
-def sample_bytes(sample):
-    pulses, beacon, mask, mode = sample
-    return pulses.to_bytes(2, "big") + bytes([beacon]) + mask.to_bytes(2, "big") + bytes([mode])
+def fault(ride):
+    """The desk's first refusal of a ride, as (number, line of the script, samples before it, sentence), or None."""
+    if len(ride.samples) > MOST_SAMPLES:
+        line = ride.sample_lines[MOST_SAMPLES]
+        return 14, line, 0, f"the ride has {len(ride.samples)} samples: a recording holds {MOST_SAMPLES}"
+    if not 1 <= ride.kind <= len(TYPES):
+        return 7, ride.kind_line, 0, f"train type {ride.kind}: the types are 1 to {len(TYPES)}"
+    if TYPES[ride.kind - 1] > ride.card.vmax():
+        said = f"train type {ride.kind} runs {TYPES[ride.kind - 1]} km/h"
+        return 7, ride.kind_line, 0, f"{said}: card {ride.card.name} is for a vehicle of {ride.card.vmax()}"
+    before = CONV
+    for i, sample in enumerate(ride.samples):
+        found = sample_fault(ride.card, before, sample)
+        if found is not None:
+            return found[0], ride.sample_lines[i], i, found[1]
+        before = sample[3]
+    return None
 
 
-def rides():
-    """Every ride: its name, its script, its expected lines. A variant's name is its lesson's with the variant behind."""
+def stop_at_fault(ride):
+    """Ends the program where the desk would refuse the ride, unless the script says that it is meant."""
+    found = fault(ride)
+    if found is not None and ride.refused is None:
+        number, line, _, why = found
+        stop(ride.path, line, f"{why}. The desk refuses it; if that is meant, add the line: refused {number}")
+
+
+# ---- which rides there are
+
+def lessons():
+    """Every lesson's ride and variant: name, script, expected lines. A variant's name is its lesson's with the variant behind."""
     found = []
     for path in sorted(HERE.glob("*/ride*.txt")):
         variant = path.stem[len("ride"):]
         found.append((path.parent.name + variant, path, path.parent / ("expected" + variant)))
     return found
+
+
+def is_known(name):
+    """Is this `all`, a lesson, one of its rides, or a script?"""
+    return name == "all" or name.endswith(".txt") or any(name in (ride, path.parent.name) for ride, path, _ in lessons())
+
+
+def rides(names):
+    """The rides that are named: `all` the lessons, a lesson by its folder, one of its rides, or a script by its path."""
+    found = []
+    for wanted in names:
+        if wanted.endswith(".txt"):
+            path = pathlib.Path(wanted)
+            found += read_script(path, path.stem)
+            continue
+        chosen = [lesson for lesson in lessons() if wanted in ("all", lesson[0], lesson[1].parent.name)]
+        if not chosen:
+            sys.exit(f"there is no lesson {wanted}; lessons/README.md lists them")
+        for name, path, expected in chosen:
+            found += read_script(path, name, expected)
+    return found
+
+
+# ---- in words
+
+def said(sample):
+    """A sample in words."""
+    p, beacon, mask, mode = sample
+    words = [f"{p} pulses"]
+    if beacon:
+        words.append(f"beacon {beacon}")
+    for bit in range(16):
+        if mask >> bit & 1:
+            name = BUTTONS[bit] if bit < len(BUTTONS) else "no button"
+            words.append(f"press {bit} ({name})")
+    if mode != CONV:
+        words.append("BTS" if mode == BTS else f"mode {mode}")
+    return ", ".join(words)

@@ -1,4 +1,5 @@
-// The logic of the crates card, curve, signals, sides, desk, buttons, beacons, sample and session, step by step, in C.
+// The logic of the crates card, curve, signals, sides, desk, buttons, beacons, step and session, step by step, in C.
+// Every range is checked at each sample, as document 01 says; with SETTINGS_AT_OPENING those of the settings at the opening alone.
 #include "desk.h"
 
 static uint32_t least(uint32_t a, uint32_t b) { return a < b ? a : b; }
@@ -351,7 +352,10 @@ static uint8_t lowest(uint8_t a, uint8_t b) { return a == 0 ? b : b == 0 ? a : a
 uint8_t session_sample(struct session *session, uint16_t pulses, uint8_t beacon, uint16_t buttons, uint8_t mode, struct answer *answer) {
     struct settings *s = &session->settings;
     struct desk *d = &session->desk;
-    if (settings_fault(s) || !type_allowed(session->train, s->vmax) || !desk_inside(d)) return 8;
+#ifndef SETTINGS_AT_OPENING
+    if (settings_fault(s)) return 8;
+#endif
+    if (!type_allowed(session->train, s->vmax) || !desk_inside(d)) return 8;
     if (beacon > 11 || buttons > 2047 || mode < 1 || mode > 2) return 9;
     uint32_t m = (uint32_t)pulses * s->tick;
     if (m > 100000) return 10;

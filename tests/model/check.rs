@@ -1,16 +1,12 @@
-//! The model's own checks: the paper's ride, "Both sides of each line", the lessons, tones and cards.
+//! The model's own checks: the paper's ride, "Both sides of each line", tones and cards. tests/compare/run has it print the
+//! lessons and the readings too.
 
 use crate::card::{self, refused, refused_at, Row, Settings};
+use crate::cards::{unhex, CARD_A, CARD_P, CARD_R, CARD_R2, CARD_RL};
 use crate::desk::{Answer, Main, Sample, Session};
-use crate::lessons::{samples, CARD_A, CARD_P, CARD_R, CARD_R2, CARD_RL, LESSONS};
-use crate::ride::{print, recorded};
+use crate::ride::print;
 use crate::tone::{classify, sheet, Tone};
 use std::io::{self, Write};
-
-pub fn unhex(text: &str) -> Vec<u8> {
-    let digits: Vec<u8> = text.bytes().filter(|b| !b.is_ascii_whitespace()).collect();
-    digits.chunks(2).map(|two| u8::from_str_radix(std::str::from_utf8(two).unwrap(), 16).unwrap()).collect()
-}
 
 struct Checks {
     passed: u32,
@@ -38,7 +34,6 @@ pub fn all(out: &mut impl Write) -> io::Result<usize> {
     card_lines(&mut checks);
     writer(&mut checks);
     readings(&mut checks);
-    lessons(&mut checks);
     tones(&mut checks);
     for line in &checks.failed {
         writeln!(out, "failed: {line}")?;
@@ -261,28 +256,6 @@ fn readings(checks: &mut Checks) {
     checks.equal("fresh cause", step(&mut session, 0, 8, 1024).cause, 4);
     checks.equal("another cause keeps it", (step(&mut session, 0, 0, 0).cause, step(&mut session, 0, 8, 1024).cause), (4, 4));
     checks.equal("rearm", step(&mut session, 0, 8, 1024).cause, 0);
-}
-
-fn lessons(checks: &mut Checks) {
-    for lesson in LESSONS {
-        let mut got = Vec::new();
-        print(&unhex(lesson.card), &recorded(lesson.train, &samples(lesson.ride)), true, &mut got).unwrap();
-        let got = String::from_utf8(got).unwrap();
-        let lines: Vec<Vec<&str>> = got.lines().map(|line| line.split(' ').collect()).collect();
-        for (n, wanted) in lesson.lines {
-            let line = if *n == 0 { lines.last() } else { lines.get(*n) };
-            let fields = line.map_or(vec![], |line| line[1..].to_vec());
-            let wanted_fields: Vec<&str> = wanted.split(' ').collect();
-            let equal = fields.len() == 5 && wanted_fields.iter().zip(&fields).all(|(w, f)| *w == "*" || w == f);
-            let shown = if equal { wanted.to_string() } else { fields.join(" ") };
-            checks.equal(&format!("lesson {}, sample {n}", lesson.name), shown, wanted.to_string());
-        }
-        // A lesson whose lines show no cause has none.
-        if lesson.lines.iter().all(|(_, line)| line.split(' ').nth(2).is_none_or(|cause| cause == "0")) {
-            let cause = lines[1..].iter().find(|line| line[3] != "0").map(|line| line.join(" "));
-            checks.equal(&format!("lesson {}, never a cause", lesson.name), cause, None);
-        }
-    }
 }
 
 pub const SHEET: &str = "00930142580000425c000042600000426d00004270000042730a3d427ce14842800a3d4281a3d74286e97942889eb8

@@ -2,12 +2,12 @@
 
 mod answer;
 mod card;
+mod cards;
 mod check;
 mod controls;
 mod damage;
 mod desk;
 mod kinds;
-mod lessons;
 mod make;
 mod ride;
 mod steer;

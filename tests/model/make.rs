@@ -1,8 +1,8 @@
 //! Batches of cases by seed: cards to read, settings to write, sheets with tones.
 
 use crate::card::{self, Row, Settings};
-use crate::check::{unhex, SHEET};
-use crate::lessons::{CARD_A, CARD_P, CARD_R, CARD_R2, CARD_RL};
+use crate::cards::{unhex, CARD_A, CARD_P, CARD_R, CARD_R2, CARD_RL};
+use crate::check::SHEET;
 
 /// Splitmix64: the same seed gives the same numbers everywhere.
 pub struct Rng(u64);

@@ -12,7 +12,6 @@ use Rattle.leaf.specs.Answers.{Answer, given, refused, refusedAt}
 use Rattle.card.specs.declared.Settings.{Settings}
 use Rattle.card.specs.Ranges.{checkSettings, inRange}
 use Rattle.card.proofs.Accepted.{in-range-only}
-use Rattle.desk.specs.declared.state.Desk.{Desk}
 use Rattle.step.specs.declared.Input.{Input}
 use Rattle.session.specs.declared.Sample.{Sample}
 use Rattle.session.specs.declared.Session.{Session}

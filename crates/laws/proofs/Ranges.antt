@@ -1,16 +1,13 @@
 -- A session is inside exactly when the plain facts hold: the settings and the train type, the session.
 use Prim.Native.Nat.{ℕ, _≤_}
 use mathlib.Core.Path.{_≡_, refl}
-use mathlib.Core.Bool.{Bool, true, false, _&&_}
-use lib.Dec.{leb}
-use borrow.Author.Tests.{le-leb, leb-true}
+use mathlib.Core.Bool.{true, _&&_}
 use Rattle.leaf.specs.Choosing.{and-split}
 use Rattle.leaf.specs.Answers.{Answer, given, refused, refusedAt, isGiven}
 use Rattle.card.specs.declared.Settings.{Settings}
 use Rattle.card.specs.Plain.{SettingsMet}
 use Rattle.card.specs.Ranges.{checkSettings, inRange}
 use Rattle.card.proofs.Accepted.{in-range-when, in-range-only}
-use Rattle.desk.specs.declared.state.Desk.{Desk}
 use Rattle.session.specs.declared.Session.{Session}
 use Rattle.session.specs.Types.{typeSpeed, typeAllowed}
 use Rattle.desk.specs.Ranges.{deskInside}

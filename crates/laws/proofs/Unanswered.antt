@@ -1,10 +1,8 @@
 -- An accepted sample is the desk's sample: its windows and misses by the laws of `step_laws`.
 use Prim.Native.Nat.{ℕ}
 use native.Mathlib.Omega.{arith}
-use mathlib.Core.Path.{_≡_, refl, ap, _∙_}
+use mathlib.Core.Path.{_≡_, ap, _∙_}
 use mathlib.Core.Bool.{Bool, true, false}
-use lib.Dec.{eqb}
-use borrow.Author.Tests.{eqb-true, eqb-false}
 use Rattle.leaf.specs.Choosing.{pick}
 use Rattle.desk.specs.declared.state.Desk.{Desk}
 use Rattle.step.specs.Step.{stepOf}
@@ -12,11 +10,10 @@ use Rattle.session.specs.declared.Sample.{Sample}
 use Rattle.session.specs.declared.Session.{Session}
 use Rattle.session.specs.declared.Sampled.{Sampled}
 use Rattle.session.specs.Session.{inBts, refusedBy, carried, ranOf, sampleOf}
-use Rattle.step_laws.specs.Unanswered.{Which, main, side, TimeOver, WindowAfter}
+use Rattle.step_laws.specs.Unanswered.{Which, main, side, TimeOver}
 use Rattle.step_laws.proofs.Brake.{brake-laws}
 use Rattle.step_laws.proofs.Unanswered.{window-after}
 use Rattle.step_laws.proofs.Missed.{miss-laws}
-use Rattle.laws.specs.Refusals.{modeOf}
 use Rattle.laws.specs.Unanswered.{topOf, UnansweredLaws}
 use Rattle.laws.proofs.Refusals.{refusal-laws}
 

@@ -18,7 +18,7 @@ use step::step;
 ghost use mathlib.Core.Path.{_≡_};
 ghost use Prim.Native.Nat.{_*_};
 ghost use Rattle.session.specs.Types.{typeSpeed, typeAllowed};
-ghost use Rattle.session.specs.Session.{freshSession, openedOf, openSession, insideOf, standstill, refusedBy, ranOf, sampleOf, outcomeOf, answerTo};
+ghost use Rattle.session.specs.Session.{freshSession, openedOf, openSession, insideOf, standstill, refusedBy, carried, ranOf, sampleOf, outcomeOf, answerTo};
 
 // Opening takes no version: settings are judged as beside this one.
 const OPENING_VERSION: u8 = 2;
@@ -147,6 +147,20 @@ impl Session {
         or_fault(n, 11, same | is_standing(x.pulses))
     }
 
+    // What the desk takes of an accepted sample.
+    fn carry(self, x: Sample) -> Input
+        ensures { λ r. ⌜ r ≡ carried self x ⌝ }
+    {
+        let tick = self.settings.tick;
+        Input {
+            m: leaf::travel(x.pulses, tick),
+            still: is_standing(x.pulses),
+            beacon: x.beacon,
+            buttons: x.buttons,
+            bts: x.mode == 2,
+        }
+    }
+
     // The sample is run: the session after it, and its answer.
     fn run(self, x: Input) -> Sampled
         ensures { λ r. ⌜ r ≡ ranOf x self ⌝ }
@@ -172,18 +186,10 @@ impl Session {
         ensures { λ r. ⌜ r ≡ sampleOf self x ⌝ }
         ensures { λ r. ⌜ outcomeOf (r .outcome) ≡ answerTo self x ⌝ }
     {
-        let settings = self.settings;
         let number = self.refusal(x);
         let accepted = number == 0;
-        let carried = Input {
-            m: leaf::travel(x.pulses, settings.tick),
-            still: is_standing(x.pulses),
-            beacon: x.beacon,
-            buttons: x.buttons,
-            bts: x.mode == 2,
-        };
         if accepted {
-            self.run(carried)
+            self.run(self.carry(x))
         } else {
             Sampled {
                 session: self,

@@ -1,129 +1,207 @@
-// Rides over the library, read from standard input as text, and the answers of the samples that are marked there.
+// What no recording can show: a session that goes on after a refused sample, one that is handed in with another tick length or
+// out of its ranges, and a card under highest version 1. Each sample's line is S, lamps, cause, crossing icon, limit standing or
+// not; or the refusal. The lines of stdout are worked from document 01; what each case is after stands above it.
 //
-// A line is known by its first byte:
-//     #        a comment
-//     A..Z     the title of what follows, written as it stands
-//     =        a card, as hex digits; what is no hex digit is passed over
-//     read H   the card read under highest version H: writes `read`, or the refusal
-//     open T   a session opened with the card and train type T: writes only a refusal
-//     tick N   the sessions handed to the next samples have this tick length
-//     0..9     samples: how many, pulses, beacon, buttons, mode. What is left out is 0, the mode then 1. Beacon and
-//              buttons hold in the first of the samples only. With a ? in the line each sample's answer is written:
-//              its number in the ride, S, lamps, cause, crossing icon, limit standing or not; or the refusal.
-// One blank parts a line's words from each other.
+// The card is K of lessons/cards, with train type 8. At age k start gives 15000 - 10k hundredths of km/h and before-stop 6000 - 10k;
+// the tick length is 100, and BTS has 70 km/h.
 use card::Reading;
 use leaf::Refusal;
 use leaf::choose16;
-use leaf::low;
-use leaf::older;
-use notation::Line;
-use notation::Samples;
-use notation::outcome;
-use notation::refusal;
 use session::Opened;
+use session::Outcome;
 use session::Sample;
 use session::Session;
+use shell::next;
+use shell::number;
 use shell::say;
+use step::Answer;
 
-// ---- a ride
+// Card K: length, version, vmax, tick length and BTS speed; eight rows of initial, final, delay and drop; functions, X, Y.
+fn card_k() -> [u8; 44] {
+    *b"\x00\x2C\x02\xC8\x00\x64\x46\
+       \xB4\xAA\x00\x0A\x78\x50\x00\x0A\
+       \x8C\x64\x00\x0A\x82\x5A\x00\x0A\
+       \x3C\x14\x00\x0A\x64\x1E\x00\x01\
+       \x6E\x32\x00\xC8\x96\x8C\x00\x0A\
+       \x0F\x00\x14\x00\x0A"
+}
 
-// The session that a card and a train type open.
-fn open(card: [u8; 44], train: u8) -> Opened {
-    let reading = card::read(&card, 2);
-    match reading {
-        Reading::Read(settings) => Session::open(settings, train),
-        Reading::Refused(why) => Opened::Refused(why),
+// ---- what is written
+
+fn refusal(why: Refusal) {
+    shell::refusal(why);
+    say(b"\n");
+}
+
+fn answer(a: Answer) {
+    number(a.speed as u64);
+    next(a.lamps);
+    next(a.cause as u16);
+    next(a.icon as u16);
+    next(choose16(a.limit, 1, 0));
+    say(b"\n");
+}
+
+fn outcome(o: Outcome) {
+    match o {
+        Outcome::Answered(a) => answer(a),
+        Outcome::Refused(why) => refusal(why),
     }
 }
 
-// The session that a line opens; a refusal is written.
-fn opening(line: Line) -> Opened {
-    let card = line.card;
-    let opened = open(card, line.number());
-    if let Opened::Refused(why) = opened {
-        refusal(why);
-    }
-    opened
-}
+// ---- the session
 
-// The session after the first of the samples, whose answer is written where they are shown.
-fn after_first(mut session: Session, x: Samples) -> Session {
-    let tick = choose16(x.tick == 0, session.settings.tick, x.tick);
-    let mode = choose16(x.mode == 0, 1, x.mode);
-    session.settings.tick = tick;
+// The session after a sample, whose line is written.
+fn after(session: Session, pulses: u16, beacon: u8, buttons: u16, mode: u8) -> Session {
     let sampled = session.sample(Sample {
-        pulses: x.pulses,
-        beacon: low(x.beacon),
-        buttons: x.buttons,
-        mode: low(mode),
+        pulses,
+        beacon,
+        buttons,
+        mode,
     });
-    if x.shown {
-        let given = sampled.outcome;
-        outcome(older(x.n), given);
-    }
+    let given = sampled.outcome;
+    outcome(given);
     sampled.session
 }
 
-// The session after all of them.
-fn after_all(session: Session, samples: Samples) -> Session {
-    let mut last = session;
-    let mut x = samples;
-    let mut k: u16 = 0;
-    while k < samples.count {
-        last = after_first(last, x);
-        x = x.rest();
-        k += 1;
-    }
-    last
+// The same in CONV with no button pressed; beacon 0 is none.
+fn reads(session: Session, pulses: u16, beacon: u8) -> Session {
+    after(session, pulses, beacon, 0, 1)
 }
 
-// What is open after a line.
-fn after_line(opened: Opened, line: Line) -> Opened {
-    if line.first == b'o' {
-        return opening(line);
-    }
-    if !line.is_samples() {
-        return opened;
-    }
-    let Opened::Ready(session) = opened else {
-        return opened;
-    };
-    Opened::Ready(after_all(session, line.samples))
+fn with_tick(mut session: Session, tick: u16) -> Session {
+    session.settings.tick = tick;
+    session
 }
 
-// ---- the lines
+fn with_vmax(mut session: Session, vmax: u8) -> Session {
+    session.settings.vmax = vmax;
+    session
+}
 
-// Reads the card, where the line asks for that.
-fn read(line: Line) {
-    if line.first != b'r' {
-        return;
-    }
-    let card = line.card;
-    let reading = card::read(&card, line.number());
+fn with_train(mut session: Session, train: u8) -> Session {
+    session.train = train;
+    session
+}
+
+fn with_last_code(mut session: Session, code: u8) -> Session {
+    session.desk.code = code;
+    session
+}
+
+// ---- cases
+
+// The 8 is not read in BTS and is the last code. A mode change with pulses is refused, so the start row that leaving BTS set is one
+// sample older after it, no more, and the 8 is not new. A sample without a beacon lets it be read: cause 4 at standstill, 256 + 1024.
+fn mode_refused(session: Session) {
+    say(b"a mode change with pulses is refused, and changes nothing\n");
+    let first = reads(session, 0, 7);
+    let in_bts = after(first, 0, 8, 0, 2);
+    let left = reads(in_bts, 0, 8);
+    let kept = after(left, 100, 0, 0, 2);
+    let same_code = reads(kept, 0, 8);
+    let no_code = reads(same_code, 0, 0);
+    reads(no_code, 0, 8);
+}
+
+// A beacon 7 sets before-stop and waits for 4, lamp 16. Four refusals later it is one sample old: the presses in refused samples have
+// neither answered it nor armed override. Then one does answer.
+fn sample_refused(session: Session) {
+    say(b"beacon 12, button 11, mode 3 and 1001 pulses are refused, and change nothing\n");
+    let read = reads(session, 100, 7);
+    let beacon = after(read, 100, 12, 16, 1);
+    let button = after(beacon, 100, 0, 2048 + 128, 1);
+    let mode = after(button, 0, 0, 16, 3);
+    let pulses = after(mode, 1001, 0, 16, 1);
+    let older = reads(pulses, 100, 0);
+    after(older, 100, 0, 16, 1);
+}
+
+// The tick length is 10..1000, the train type 1..8 and its T at most vmax, the last code at most 11. 8 comes before 9. Six refusals
+// later, everything put back, the beacon 7 is one sample old.
+fn session_refused(session: Session) {
+    say(b"a session out of its ranges is refused, and handed back as it was\n");
+    let read = reads(session, 0, 7);
+    let short = reads(with_tick(read, 9), 0, 0);
+    let long = reads(with_tick(short, 1001), 0, 12);
+    let none = reads(with_train(with_tick(long, 100), 0), 0, 0);
+    let nine = reads(with_train(none, 9), 0, 0);
+    let slow = reads(with_vmax(with_train(nine, 8), 199), 0, 0);
+    let code = reads(with_last_code(with_vmax(slow, 200), 12), 0, 0);
+    reads(with_last_code(code, 7), 0, 0);
+}
+
+// 100,000 tenths of a millimetre, at 360 km/h.
+fn ten_metres(session: Session) -> Session {
+    reads(session, 1000, 0)
+}
+
+fn fifty_metres(session: Session) -> Session {
+    let ten = ten_metres(session);
+    let twenty = ten_metres(ten);
+    let thirty = ten_metres(twenty);
+    let forty = ten_metres(thirty);
+    ten_metres(forty)
+}
+
+// 960 * 100 and seven times 100,000 make 796,000 from the reading. With 31 * 129 = 3,999 more the second beacon 7 is the zone, its lamp
+// dark before age 10; with 40 * 100 = 4,000 before-stop is set anew. No tick length divides 799,999, so no one card gives it. Too fast
+// from the second sample on: cause 5.
+fn second_seven(session: Session, tick: u16, pulses: u16) {
+    let read = reads(session, 0, 7);
+    let answered = after(read, 960, 0, 16, 1);
+    let half = fifty_metres(answered);
+    let near = ten_metres(ten_metres(half));
+    reads(with_tick(near, tick), pulses, 7);
+}
+
+fn zone(session: Session) {
+    say(b"beacon 7 again at 799,999 is the stop zone\n");
+    second_seven(session, 31, 129);
+    say(b"and at 800,000 is none\n");
+    second_seven(session, 40, 100);
+}
+
+fn read_under_1(card: [u8; 44]) {
+    let reading = card::read(&card, 1);
     match reading {
         Reading::Read(_) => say(b"read\n"),
         Reading::Refused(why) => refusal(why),
     }
 }
 
-fn run(text: &[u8]) {
-    let mut opened = Opened::Refused(Refusal::Number(0));
-    let mut line = Line::empty([0; 44], 0, 0);
-    let mut i = 0;
-    while i < text.len() {
-        let b = text[i];
-        line = line.next(b);
-        if b == b'\n' {
-            read(line);
-            opened = after_line(opened, line);
-            line = line.behind();
-        }
-        i += 1;
+// Card K, and its first 39 bytes as a record of version 1.
+fn highest_1() {
+    say(b"under highest 1 version 2 is refused and version 1 read\n");
+    let mut card = card_k();
+    read_under_1(card);
+    card[1] = 39;
+    card[2] = 1;
+    read_under_1(card);
+}
+
+fn rides(session: Session) {
+    mode_refused(session);
+    sample_refused(session);
+    session_refused(session);
+    zone(session);
+}
+
+// The session that card K opens.
+fn opened() -> Opened {
+    let card = card_k();
+    let reading = card::read(&card, 2);
+    match reading {
+        Reading::Read(settings) => Session::open(settings, 8),
+        Reading::Refused(why) => Opened::Refused(why),
     }
 }
 
 fn main() {
-    let mut text = io::large_buffer();
-    let n = io::read_full(0, &mut text);
-    run(&text[..n]);
+    let start = opened();
+    match start {
+        Opened::Ready(session) => rides(session),
+        Opened::Refused(why) => refusal(why),
+    }
+    highest_1();
 }

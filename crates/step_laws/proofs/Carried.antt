@@ -21,6 +21,10 @@ same-is true false h = sym h
 same-is false true h = h
 same-is false false h = refl
 
+pub same-mode : (a b : Bool) → a ≡ b → sameMode a b ≡ true
+same-mode true b e = rw (← e)
+same-mode false b e = rw (← e)
+
 module _ (s : Settings) (top : ℕ) (x : Input) (d : Desk) where
   -- the sample's mode, this code, and the brake as it was
   abbrev Carries : ℕ → Desk → Type 0

@@ -6,6 +6,7 @@ pub mod Carried
 pub mod Causes
 pub mod Ranges
 pub mod Windows
+pub mod Presses
 pub mod Unanswered
 pub mod Missed
 pub mod Speed

@@ -5,13 +5,12 @@ use mathlib.Core.Path.{_≡_, refl, sym, ap, _∙_}
 use mathlib.Core.Bool.{Bool, true, false, _&&_, not, false≢true}
 use mathlib.Core.Logic.{_⊎_, inl, inr, _↔_}
 use lib.Dec.{eqb}
-use borrow.Author.Tests.{eqb-true, eqb-false, ne-eqb}
+use borrow.Author.Tests.{ne-eqb}
 use Rattle.leaf.specs.Choosing.{pick}
 use Rattle.leaf.specs.Numbers.{agedOf, furtherOf, exceedsOf}
 use Rattle.card.specs.declared.Settings.{Settings}
 use Rattle.card.specs.Card.{reminds}
 use Rattle.signals.specs.declared.window.Waits.the-variants as waits
-use Rattle.signals.specs.declared.window.Window.{Window}
 use Rattle.signals.specs.declared.control.MainKind.the-variants.{Announcement}
 use Rattle.signals.specs.Windows.{closed, asksOf, windowOlder, missedOf}
 use Rattle.signals.specs.MainControl.{mainOf}
@@ -22,18 +21,17 @@ use Rattle.desk.specs.declared.clock.Turn.{Turn}
 use Rattle.desk.specs.Beside.{besideOlder}
 use Rattle.desk.specs.State.{takenOver, crossingSet, modeChanged}
 use Rattle.desk.specs.Clock.{sameMode, deskOlder, reminded, mainCounts, sideCounts, mainMissed, sideMissed, missCause, advanced, begun}
-use Rattle.beacons.specs.Beacons.{readsOf, beaconTaken}
+use Rattle.beacons.specs.Beacons.{beaconTaken}
 use Rattle.step.specs.declared.Input.{Input}
 use Rattle.step.specs.Speed.{crossingTurned, supervisedOf}
 use Rattle.step.specs.Brake.{lowest}
 use Rattle.step.specs.Step.{movedOf, judgedOf, stepOf}
 use Rattle.step_laws.specs.Walk.{atBeacon, readsAt}
-use Rattle.step_laws.specs.Windows.{oneOn}
-use Rattle.step_laws.specs.Unanswered.{Which, main, side, windowOf, Open, TimeOver, atButtons, MissLaws}
-use Rattle.step_laws.proofs.Choosing.{pick-has}
-use Rattle.step_laws.proofs.Carried.{same-is}
-use Rattle.step_laws.proofs.Windows.{main-missed-side, window-laws}
-use Rattle.step_laws.proofs.Unanswered.{same-mode, missed-exactly}
+use Rattle.step_laws.specs.Unanswered.{Which, main, side, windowOf, TimeOver, atButtons, MissLaws}
+use Rattle.step_laws.proofs.Choosing.{pick-has, not-so}
+use Rattle.step_laws.proofs.Carried.{same-is, same-mode}
+use Rattle.step_laws.proofs.Windows.{main-missed-side, missed-exactly}
+use Rattle.step_laws.proofs.Presses.{begun-as, at-buttons, over-closed}
 
 -- ---- the causes: "lowest number within a sample"
 
@@ -106,10 +104,6 @@ module _ (s : Settings) (top : ℕ) (x : Input) (d : Desk) where
       let speed : ℕ = supervisedOf s top (crossingTurned (x .m) (movedOf s top x d .desk)) in
       lowest-is _ _ n (pick-later (exceedsOf (x .m) (speed + 500)) 5 (omega arith)) low high
 
-  begun-as : d .bts ≡ x .bts → begins ≡ advances
-  unfolding begun
-  begun-as e = rw (same-mode (d .bts) (x .bts) e)
-
   -- no miss in a sample that changes the mode
   begun-miss : (n : ℕ) → 1 ≤ n → (begins .cause ≡ n) ↔ ((d .bts ≡ x .bts) × (advances .cause ≡ n))
   unfolding begun
@@ -156,10 +150,6 @@ module _ (s : Settings) (top : ℕ) (x : Input) (d : Desk) where
       when : TimeOver x d main → stepOf s top x d .arose ≡ 1
       when t = arises 1 (omega arith) (omega arith) .1 (t .stands .mode, main-cause main-over side-over reminder-over .1 (over-missed main t))
 
-  not-so : (t : Bool) → (t ≡ true → ⊥) → t ≡ false
-  not-so true h = absurd (h refl)
-  not-so false h = refl
-
   cause-2 : (stepOf s top x d .arose ≡ 2) ↔ (TimeOver x d side × (TimeOver x d main → ⊥))
   unfolding advanced deskOlder
   cause-2 = (only, when)
@@ -179,11 +169,7 @@ module _ (s : Settings) (top : ℕ) (x : Input) (d : Desk) where
   -- ---- closed, and counted
 
   miss-closes : (which : Which) → TimeOver x d which → windowOf which (atButtons s x d) ≡ closed
-  unfolding oneOn
-  miss-closes main t =
-      ap (λ (u : Turn). u .desk .window) (begun-as (t .stands .mode)) ∙ window-laws .clock-main (x .m) (reminds (s .functions)) (s .x) (s .y) d ∙ rw (over-missed main t)
-  miss-closes side t =
-      ap (λ (u : Turn). u .desk .side) (begun-as (t .stands .mode)) ∙ window-laws .clock-side (x .m) (reminds (s .functions)) (s .x) (s .y) d ∙ rw (over-missed side t)
+  miss-closes which t = at-buttons s x d (t .stands .mode) which ∙ over-closed s x d (t .stands .mode) which t
 
   side-missed-main : (c : Bool) (e : Desk) → sideMissed c e .main ≡ e .main
   unfolding sideMissed sideCounts crossingSet
@@ -201,7 +187,7 @@ module _ (s : Settings) (top : ℕ) (x : Input) (d : Desk) where
       TimeOver x d main → d .window .waits ≡ waits.One
       → atButtons s x d .main ≡ mainOf Announcement (agedOf (d .window .age)) (furtherOf (d .window .distance) (x .m))
   unfolding advanced reminded deskOlder mainMissed mainCounts takenOver windowOlder
-  counts-1 t w = ap (λ (u : Turn). u .desk .main) (begun-as (t .stands .mode)) ∙ side-missed-main side-over _ ∙ rw (over-missed main t, w)
+  counts-1 t w = ap (λ (u : Turn). u .desk .main) (begun-as s x d (t .stands .mode)) ∙ side-missed-main side-over _ ∙ rw (over-missed main t, w)
 
   counts-9 :
       TimeOver x d side → d .side .waits ≡ waits.Nine
@@ -209,7 +195,7 @@ module _ (s : Settings) (top : ℕ) (x : Input) (d : Desk) where
   unfolding advanced reminded deskOlder besideOlder sideMissed sideCounts crossingSet windowOlder
   counts-9 t w =
       let rest : Desk = reminded (reminds (s .functions)) (s .x) (s .y) (deskOlder (x .m) d) in
-      ap (λ (u : Turn). u .desk .beside .crossing) (begun-as (t .stands .mode)) ∙ rw (over-missed side t, main-missed-side main-over rest, main-missed-crossing main-over rest, w)
+      ap (λ (u : Turn). u .desk .beside .crossing) (begun-as s x d (t .stands .mode)) ∙ rw (over-missed side t, main-missed-side main-over rest, main-missed-crossing main-over rest, w)
 
   pub miss-laws : MissLaws s top x d
   miss-laws = record { cause-1 = cause-1; cause-2 = cause-2; miss-closes = miss-closes; counts-1 = counts-1; counts-9 = counts-9 }

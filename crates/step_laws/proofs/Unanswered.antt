@@ -1,16 +1,12 @@
--- What a sample does to an open window: unanswered, by the walk through the steps; shut, or the zone's, by the reading itself.
-use Prim.Native.Nat.{ℕ, suc, _+_, _-_, _^_, _≤_}
+-- What a sample does to an open window: unanswered, by the buttons and then the walk from the beacon on; shut, or the zone's, by the reading itself.
+use Prim.Native.Nat.{ℕ, suc, _+_, _≤_}
 use native.Mathlib.Omega.{arith}
-use native.Mathlib.Nat.{zero-div}
 use mathlib.Core.Path.{_≡_, refl, sym, ap, _∙_}
 use mathlib.Core.Bool.{Bool, true, false, _&&_, false≢true}
 use mathlib.Core.List.{List, [], _∷_}
 use mathlib.Core.Logic.{_⊎_, inl, inr, _↔_}
-use lib.Dec.{eqb}
 use lib.ListN.{length}
-use borrow.Author.Tests.{eqb-true, eq-eqb}
 use Rattle.leaf.specs.Choosing.{pick, and-split}
-use Rattle.leaf.specs.Numbers.{bitOf}
 use Rattle.card.specs.declared.Settings.{Settings}
 use Rattle.card.specs.Card.{protects, zones}
 use Rattle.signals.specs.declared.window.Waits.{Waits}
@@ -20,30 +16,27 @@ use Rattle.signals.specs.declared.control.MainKind.the-variants.{Announcement}
 use Rattle.signals.specs.Windows.{missTime, zoneMiss, closed, opened, isOpen, asksOf, windowOlder, missedOf, answersOf, timeLeft}
 use Rattle.signals.specs.MainControl.{mainOlder, nearOf}
 use Rattle.desk.specs.declared.state.Desk.{Desk}
-use Rattle.desk.specs.State.{withCode, withWindow, withSide, takenOver, crossingSet, limitNow, modeChanged}
-use Rattle.desk.specs.Clock.{sameMode, deskOlder, reminded, mainCounts, mainMissed, sideMissed, advanced, begun}
-use Rattle.buttons.specs.Buttons.{optionUsed, limitRemoved, reminderAnswered, overrideArmed, stopIncreased, limitStepped, hidePressed, pressesOf}
-use Rattle.beacons.specs.Beacons.{mainOpened, sideOpened, optionOffered, reading3, reading4, zoneOr, zoneMet, reading7, stopped, reading8, readingOf, readIf, beaconTaken}
+use Rattle.desk.specs.State.{withCode, withWindow, takenOver, crossingSet}
+use Rattle.desk.specs.Clock.{deskOlder, reminded, mainCounts, mainMissed, sideMissed, advanced, begun}
+use Rattle.buttons.specs.Buttons.{chosen, answeredBy, mainAnswered, sideAnswered, pressed, freeFor, optionUsed, limitRemoved, reminderAnswered, overrideArmed, stopIncreased, limitStepped, crossingPressed, limitPressed, overridePressed, increasePressed, hidePressed, windowPresses, allPresses, pressesOf}
+use Rattle.beacons.specs.Beacons.{mainOpened, sideOpened, optionOffered, reading3, reading4, zoneMet, reading7, stopped, reading8, readingOf, readIf, beaconTaken}
 use Rattle.step.specs.declared.Input.{Input}
 use Rattle.step.specs.Speed.{crossingTurned}
 use Rattle.step.specs.Brake.{braked}
 use Rattle.step.specs.Step.{movedOf, judgedOf, stepOf}
-use Rattle.step_laws.specs.Walk.{atBeacon, readsAt, Ends, missed, pressed, Sets, ToBeacon, OfBeacon}
-use Rattle.step_laws.specs.Unanswered.{Which, main, side, windowOf, TimeOver, Unanswered, reads, Shuts, Zones, WindowAfter, waitingDesk, beacon7, NoLending, stepsOf, AllUnanswered, ChainLaws}
-use Rattle.step_laws.proofs.Walk.{AnyReading, at-beacon, after-beacon}
+use Rattle.step_laws.specs.Walk.{atBeacon, readsAt, OfBeacon}
+use Rattle.step_laws.specs.Unanswered.{Which, main, side, isMain, windowOf, Open, TimeOver, Unanswered, reads, Shuts, Zones, WindowAfter, waitingDesk, beacon7, sharingDesk, beacon10, NoLending, stepsOf, AllUnanswered, ChainLaws}
+use Rattle.step_laws.proofs.Walk.{after-beacon}
 use Rattle.step_laws.proofs.Carried.{carried-laws}
+use Rattle.step_laws.proofs.Presses.{sets-window, answer-laws}
 
--- ---- the walk with a window at hand, which is one sample older and has not ended
+-- ---- from the beacon on, with a window at hand that is one sample older
 
 -- what the sample leaves of it
 data Left (s : Settings) (top : ℕ) (x : Input) (d : Desk) (which : Which) (before : ℕ) (w : Window) : Type 0 where
   near : isOpen (w .waits) ≡ true → w .left + 1 ≡ before → Left s top x d which before w
   shut : Shuts s x d which → Left s top x d which before w
   zone : Zones s top x d which → Left s top x d which before w
-
-pub same-mode : (a b : Bool) → a ≡ b → sameMode a b ≡ true
-same-mode true b e = rw (← e)
-same-mode false b e = rw (← e)
 
 -- a beacon is read by the desk where it is looked at exactly as by the desk before
 reads-at : (s : Settings) (top : ℕ) (x : Input) (d : Desk) → readsAt s x (atBeacon s top x d) ≡ reads s x d
@@ -61,7 +54,7 @@ zone-code code d = cases (asksOf (d .window .waits))
     cases false = refl
 
 module _ (s : Settings) (top : ℕ) (x : Input) (d : Desk) (old : Window) (before : ℕ)
-    (waits-on : isOpen (old .waits) ≡ true) (time : old .left + 1 ≡ before) (goes-on : Ends x old → ⊥) where
+    (waits-on : isOpen (old .waits) ≡ true) (time : old .left + 1 ≡ before) where
   -- the window is that one
   abbrev Is : Which → Desk → Type 0
   Is which e = windowOf which e ≡ old
@@ -76,14 +69,6 @@ module _ (s : Settings) (top : ℕ) (x : Input) (d : Desk) (old : Window) (befor
   displaced : (which : Which) (v : Waits) (w : Window) → isOpen v ≡ true → w ≡ old → After which (opened v (timeLeft w missTime))
   unfolding timeLeft
   displaced which v w o e = near o (rw (e, waits-on) time)
-
-  main-closed : (which : Which) (e next : Desk) → Ends x (e .window) → Is which e → Is which next → Is which (withWindow closed next)
-  main-closed main e next o h n = absurd (goes-on (rw h at o))
-  main-closed side e next o h n = n
-
-  side-closed : (which : Which) (e next : Desk) → Ends x (e .side) → Is which e → Is which next → Is which (withSide closed next)
-  side-closed main e next o h n = n
-  side-closed side e next o h n = absurd (goes-on (rw h at o))
 
   main-opened : (which : Which) (w : Waits) (e : Desk) → isOpen w ≡ true → Is which e → After which (windowOf which (mainOpened w e))
   unfolding mainOpened
@@ -108,36 +93,7 @@ module _ (s : Settings) (top : ℕ) (x : Input) (d : Desk) (old : Window) (befor
   none-left main e w r c h = shut (record { is-main = refl; read = sym (reads-at s top x d) ∙ r; code = c })
   none-left side e w r c h = it side (e .side) h
 
-  module _ (which : Which) (same : d .bts ≡ x .bts) (older : windowOf which (deskOlder (x .m) d) ≡ old) where
-    sets-it : Sets (Is which) AnyReading
-    unfolding takenOver crossingSet limitNow
-    sets-it =
-        record {
-          now = tt;
-          main-reading = λ e h. tt;
-          side-reading = λ e h. tt;
-          taken = λ kind age distance e r h. h;
-          crossing = λ age distance e r h. h;
-          limit = λ age distance e r h. h;
-        }
-
-    to-beacon-it : ToBeacon s top x d (Is which)
-    unfolding reminded optionUsed limitRemoved reminderAnswered overrideArmed stopIncreased limitStepped hidePressed
-    to-beacon-it =
-        record {
-          changed = λ e. absurd (false≢true (sym e ∙ same-mode (d .bts) (x .bts) same));
-          advanced = λ e. older;
-          main-closed = main-closed which;
-          side-closed = side-closed which;
-          option = λ e h. h;
-          removed = λ e h. h;
-          answered = λ e h. h;
-          armed = λ e h. h;
-          increased = λ e h. h;
-          stepped = λ e h. h;
-          hidden = λ e h. h;
-        }
-
+  module _ (which : Which) where
     of-beacon-it : OfBeacon s top x d (Is which) (λ (e : Desk). After which (windowOf which e))
     unfolding stopped reading4 optionOffered
     of-beacon-it =
@@ -152,37 +108,17 @@ module _ (s : Settings) (top : ℕ) (x : Input) (d : Desk) (old : Window) (befor
           offered = λ e h. h;
         }
 
-    moved-it : After which (windowOf which (movedOf s top x d .desk))
-    moved-it = after-beacon sets-it of-beacon-it (at-beacon sets-it to-beacon-it)
+    moved-it : Is which (atBeacon s top x d) → After which (windowOf which (movedOf s top x d .desk))
+    moved-it h = after-beacon (sets-window which old) of-beacon-it h
 
 -- ---- unanswered
 
--- a window is missed exactly where its time is over
-pub missed-exactly : (m : ℕ) (w : Window) → (missedOf (windowOlder m w) ≡ true) ↔ ((isOpen (w .waits) ≡ true) × (w .left ≤ 1))
-unfolding missedOf windowOlder
-missed-exactly m w = (only, when)
-  where
-    only : (isOpen (w .waits) && eqb (w .left - 1) 0) ≡ true → (isOpen (w .waits) ≡ true) × (w .left ≤ 1)
-    only h = let q = and-split (isOpen (w .waits)) (eqb (w .left - 1) 0) h in let z = eqb-true (w .left - 1) 0 (q .1) in (q .0, omega arith)
-
-    when : (isOpen (w .waits) ≡ true) × (w .left ≤ 1) → (isOpen (w .waits) && eqb (w .left - 1) 0) ≡ true
-    when h = let low = h .1 in rw (h .0, eq-eqb (w .left - 1) 0 (omega arith))
-
-older-of : (m : ℕ) (which : Which) (d : Desk) → windowOf which (deskOlder m d) ≡ windowOlder m (windowOf which d)
-unfolding deskOlder
-older-of m main d = refl
-older-of m side d = refl
-
 module _ (s : Settings) (top : ℕ) (x : Input) (d : Desk) (which : Which) where
-  goes-on : Unanswered x d which → Ends x (windowOlder (x .m) (windowOf which d)) → ⊥
-  goes-on u (missed e) = let q = missed-exactly (x .m) (windowOf which d) .0 e in let low = q .1 in let high = u .time in omega arith
-  goes-on u (pressed k on answers) = u .no-press k on answers
-
   after-unanswered : Unanswered x d which → Left s top x d which (windowOf which d .left) (windowOf which (stepOf s top x d .desk))
   unfolding stepOf judgedOf crossingTurned braked windowOlder
   after-unanswered u =
       moved-it s top x d (windowOlder (x .m) (windowOf which d)) (windowOf which d .left) (u .stands .is-open)
-      (let high = u .time in omega arith) (goes-on u) which (u .stands .mode) (older-of (x .m) which d)
+      (let high = u .time in omega arith) which (answer-laws s top x d which .stays u)
 
   nearer :
       Unanswered x d which → (Shuts s x d which → ⊥) → (Zones s top x d which → ⊥)
@@ -233,12 +169,15 @@ module _ (s : Settings) (top : ℕ) (x : Input) (d : Desk) where
 
 -- ---- the slip
 
-nothing-pressed : (k : ℕ) → bitOf 0 (2 ^ k) ≡ true → ⊥
-nothing-pressed k h = false≢true (rw zero-div at h)
-
-unanswered-here : Unanswered beacon7 waitingDesk main
-unanswered-here =
-    record { stands = record { mode = refl; is-open = refl }; time = omega arith; no-press = λ k on answers. nothing-pressed k on }
+module _ (s : Settings) (top : ℕ) (x : Input) (d : Desk) (which : Which) (o : Open x d which) (time : 2 ≤ windowOf which d .left) where
+  -- a window that the beacon finds is unanswered
+  found : isOpen (windowOf which (atBeacon s top x d) .waits) ≡ true → Unanswered x d which
+  found h =
+      record {
+        stands = o;
+        time = time;
+        no-answer = λ k a. false≢true (rw (answer-laws s top x d which .answered k o a) at h);
+      }
 
 no-shut-here : (s : Settings) → Shuts s beacon7 waitingDesk main → ⊥
 no-shut-here s h = cases (h .code)
@@ -251,11 +190,25 @@ not-near-here : (s : Settings) (top : ℕ) → zoneMet (atBeacon s top beacon7 w
 unfolding pressesOf begun advanced sideMissed mainMissed missedOf windowOlder deskOlder reminded zoneMet mainCounts nearOf mainOlder
 not-near-here s top = refl
 
+module _ (s : Settings) (top : ℕ) where
+  unanswered-here : Unanswered beacon7 waitingDesk main
+  unfolding pressesOf begun advanced sideMissed mainMissed missedOf windowOlder deskOlder reminded
+  unanswered-here = found s top beacon7 waitingDesk main (record { mode = refl; is-open = refl }) (omega arith) refl
+
+  -- the main window takes the press
+  unanswered-beside : Unanswered beacon10 sharingDesk side
+  unfolding pressesOf allPresses windowPresses crossingPressed limitPressed overridePressed increasePressed hidePressed pressed mainAnswered sideAnswered answeredBy chosen answersOf optionUsed limitRemoved reminderAnswered overrideArmed stopIncreased limitStepped freeFor begun advanced sideMissed mainMissed missedOf windowOlder deskOlder reminded crossingSet
+  unanswered-beside = found s top beacon10 sharingDesk side (record { mode = refl; is-open = refl }) (omega arith) refl
+
 pub no-lending : NoLending
 no-lending =
     record {
       not-lent = λ s top law.
-          let r = law .nearer unanswered-here (no-shut-here s) (λ z. false≢true (sym (not-near-here s top) ∙ z .near)) in
+          let r = law .nearer (unanswered-here s top) (no-shut-here s) (λ z. false≢true (sym (not-near-here s top) ∙ z .near)) in
+          let time = r .1 in
+          omega arith;
+      side-not-lent = λ s top law.
+          let r = law .nearer (unanswered-beside s top) (λ h. false≢true (ap isMain (h .is-main))) (λ z. false≢true (ap isMain (z .is-main))) in
           let time = r .1 in
           omega arith;
     }

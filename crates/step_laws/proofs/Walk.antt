@@ -1,5 +1,5 @@
 -- The walk through the steps of a sample: what is shown of each single thing that can happen is so of the whole.
-use Prim.Native.Nat.{ℕ, _^_}
+use Prim.Native.Nat.{ℕ, suc, _^_}
 use mathlib.Core.Path.{_≡_, refl}
 use mathlib.Core.Bool.{Bool, true, false, _&&_, not}
 use lib.Dec.{eqb}
@@ -7,6 +7,7 @@ use borrow.Author.Tests.{eqb-true}
 use Rattle.leaf.specs.Choosing.{and-split}
 use Rattle.leaf.specs.Numbers.{bitOf}
 use Rattle.leaf.specs.Buttons.{announcementButton, preannouncementButton, cautionButton, crossingButton, limitButton}
+use Rattle.card.specs.declared.Row.{Row}
 use Rattle.card.specs.declared.Settings.{Settings}
 use Rattle.card.specs.Card.{protects, zones, reminds}
 use Rattle.signals.specs.declared.window.Waits.{Waits}
@@ -14,17 +15,17 @@ use Rattle.signals.specs.declared.window.Waits.the-variants as waits
 use Rattle.signals.specs.declared.window.Window.{Window}
 use Rattle.signals.specs.declared.control.MainKind.{MainKind}
 use Rattle.signals.specs.declared.control.MainKind.the-variants as main
-use Rattle.signals.specs.Windows.{closed, isOpen, asksOf, missedOf, answersOf}
+use Rattle.signals.specs.Windows.{isOpen, asksOf, missedOf, answersOf}
 use Rattle.desk.specs.declared.state.Desk.{Desk}
 use Rattle.desk.specs.declared.clock.Turn.{Turn}
-use Rattle.desk.specs.State.{withCode, withWindow, takenOver, limitNow, modeChanged}
+use Rattle.desk.specs.State.{withCode, modeChanged}
 use Rattle.desk.specs.Clock.{sameMode, deskOlder, reminded, mainCounts, sideCounts, mainMissed, sideMissed, advanced, begun}
 use Rattle.buttons.specs.Buttons.{chosen, answeredBy, mainAnswered, sideAnswered, pressed, optionUsed, limitRemoved, reminderAnswered, overrideArmed, stopIncreased, limitStepped, crossingPressed, limitPressed, overridePressed, increasePressed, hidePressed, windowPresses, allPresses, pressesOf}
 use Rattle.beacons.specs.Beacons.{reading1, readingRow, optionOffered, reading3, reading4, zoneOr, zoneMet, reading7, reading8, reading9, readingLimit, readingOf, readIf, beaconTaken}
 use Rattle.step.specs.declared.Input.{Input}
 use Rattle.step.specs.Step.{movedOf}
 use Rattle.step_laws.specs.Walk.{atBeacon, readsAt, Ends, missed, pressed as by-press, Sets, ToBeacon, OfBeacon}
-use Rattle.step_laws.proofs.Choosing.{pick-by, pick-has}
+use Rattle.step_laws.proofs.Choosing.{pick-by, pick-has, step-has}
 
 -- any age, any distance: where P does not speak of readings
 abbrev pub AnyReading : ℕ → ℕ → Type 0
@@ -49,9 +50,35 @@ module _ {P : Desk → Type 0} {R : ℕ → ℕ → Type 0} (k : Sets P R) where
       (pick-has P (eqb weight cautionButton) (k .taken main.Caution age distance e r h)
       (pick-has P (eqb weight crossingButton) (k .crossing age distance e r h) (pick-has P (eqb weight limitButton) (k .limit age distance e r h) h))))
 
-  answered-keeps : (weight : ℕ) (w : Window) (e : Desk) → R (w .age) (w .distance) → P e → P (answeredBy weight w e)
+  pub answered-keeps : (weight : ℕ) (w : Window) (e : Desk) → R (w .age) (w .distance) → P e → P (answeredBy weight w e)
   unfolding answeredBy
   answered-keeps weight w e r h = pick-has P (asksOf (w .waits)) (chosen-keeps weight (w .age) (w .distance) e r h) h
+
+-- ---- buttons, lowest bit first
+
+-- presses that no window takes, each with its use or without
+pub record Uses (P : Desk → Type 0) : Type 0 where
+  pub option : (b : Bool) (e : Desk) → P e → P (optionUsed b e)
+  pub removed : (b : Bool) (e : Desk) → P e → P (limitRemoved b e)
+  pub answered : (b : Bool) (e : Desk) → P e → P (reminderAnswered b e)
+  pub armed : (b : Bool) (e : Desk) → P e → P (overrideArmed b e)
+  pub increased : (b : Bool) (e : Desk) → P e → P (stopIncreased b e)
+  pub stepped : (b : Bool) (e : Desk) → P e → P (limitStepped b e)
+  pub hidden : (b : Bool) (e : Desk) → P e → P (hidePressed b e)
+
+-- P k holds where the buttons below k are done; those from 7 on are not for windows
+pub all-pressed :
+    (x : Input) (P : ℕ → Desk → Type 0)
+    → ((k : ℕ) (e : Desk) → P k e → P (suc k) (pressed (bitOf (x .buttons) (2 ^ k)) (2 ^ k) e))
+    → ((k : ℕ) → Uses (P k))
+    → (m : ℕ) (row : Row) (top : ℕ) (e : Desk) → P 0 e → P 7 (allPresses (x .buttons) m row top e)
+unfolding allPresses increasePressed overridePressed limitPressed crossingPressed windowPresses
+all-pressed x P press u m row top e h =
+    let windows = press 4 _ (press 3 _ (press 2 _ (press 1 _ (press 0 _ h)))) in
+    let sides = u 7 .removed _ _ (press 6 _ (u 6 .option _ _ (press 5 _ windows))) in
+    u 7 .hidden _ _ (u 7 .stepped _ _ (u 7 .increased _ _ (u 7 .armed _ _ (u 7 .answered _ _ sides))))
+
+-- ---- up to the beacon
 
 module _ {s : Settings} {top : ℕ} {x : Input} {d : Desk} {P : Desk → Type 0} {R : ℕ → ℕ → Type 0} (k : Sets P R) (t : ToBeacon s top x d P) where
   -- ---- mode; ages and misses
@@ -101,50 +128,23 @@ module _ {s : Settings} {top : ℕ} {x : Input} {d : Desk} {P : Desk → Type 0}
       h
       (main-answered (on && main) (2 ^ i) e (λ p. let q = and-split on main p in by-press i (q .0) (q .1)) h)
 
-  option-used : (b : Bool) (e : Desk) → P e → P (optionUsed b e)
-  unfolding optionUsed
-  option-used true e h = t .option e h
-  option-used false e h = h
-
-  limit-removed : (b : Bool) (e : Desk) → P e → P (limitRemoved b e)
-  unfolding limitRemoved
-  limit-removed true e h = t .removed e h
-  limit-removed false e h = h
-
-  reminder-answered : (b : Bool) (e : Desk) → P e → P (reminderAnswered b e)
-  unfolding reminderAnswered
-  reminder-answered true e h = t .answered e h
-  reminder-answered false e h = h
-
-  override-armed : (b : Bool) (e : Desk) → P e → P (overrideArmed b e)
-  unfolding overrideArmed
-  override-armed true e h = t .armed e h
-  override-armed false e h = h
-
-  stop-increased : (b : Bool) (e : Desk) → P e → P (stopIncreased b e)
-  unfolding stopIncreased
-  stop-increased true e h = t .increased e h
-  stop-increased false e h = h
-
-  limit-stepped : (b : Bool) (e : Desk) → P e → P (limitStepped b e)
-  unfolding limitStepped
-  limit-stepped true e h = t .stepped e h
-  limit-stepped false e h = h
-
-  hide-pressed : (b : Bool) (e : Desk) → P e → P (hidePressed b e)
-  unfolding hidePressed
-  hide-pressed true e h = t .hidden e h
-  hide-pressed false e h = h
+  uses : Uses P
+  unfolding optionUsed limitRemoved reminderAnswered overrideArmed stopIncreased limitStepped hidePressed
+  uses =
+      record {
+        option = step-has P optionUsed (t .option) (λ e h. h);
+        removed = step-has P limitRemoved (t .removed) (λ e h. h);
+        answered = step-has P reminderAnswered (t .answered) (λ e h. h);
+        armed = step-has P overrideArmed (t .armed) (λ e h. h);
+        increased = step-has P stopIncreased (t .increased) (λ e h. h);
+        stepped = step-has P limitStepped (t .stepped) (λ e h. h);
+        hidden = step-has P hidePressed (t .hidden) (λ e h. h);
+      }
 
   -- all the steps up to the beacon
   pub at-beacon : P (atBeacon s top x d)
-  unfolding pressesOf allPresses increasePressed overridePressed limitPressed crossingPressed windowPresses
-  at-beacon =
-      let h = begun-has in
-      let windows = pressed-keeps 4 _ (pressed-keeps 3 _ (pressed-keeps 2 _ (pressed-keeps 1 _ (pressed-keeps 0 _ h)))) in
-      let sides = limit-removed _ _ (pressed-keeps 6 _ (option-used _ _ (pressed-keeps 5 _ windows))) in
-      pick-has P (eqb (x .buttons) 0) h
-      (hide-pressed _ _ (limit-stepped _ _ (stop-increased _ _ (override-armed _ _ (reminder-answered _ _ sides)))))
+  unfolding pressesOf
+  at-beacon = let h = begun-has in pick-has P (eqb (x .buttons) 0) h (all-pressed x (λ k. P) pressed-keeps (λ k. uses) _ _ _ _ h)
 
 -- ---- beacon
 

@@ -4,10 +4,11 @@ use native.Mathlib.Omega.{arith}
 use native.Mathlib.Nat.{zero-div}
 use mathlib.Core.Path.{_≡_, refl, sym, _∙_}
 use mathlib.Core.Bool.{Bool, true, false, _&&_}
+use mathlib.Core.Logic.{_↔_}
 use lib.Dec.{eqb, leb, ltb}
 use borrow.Author.Tests.{eq-eqb, ne-eqb, eqb-true, eqb-false, leb-true, leb-false, ltb-true, ltb-false}
 use Rattle.leaf.specs.Numbers.{ageTop, bitOf}
-use Rattle.leaf.specs.Choosing.{pick}
+use Rattle.leaf.specs.Choosing.{pick, and-split}
 use Rattle.leaf.specs.Buttons.{beforeStopButton}
 use Rattle.signals.specs.declared.window.Waits.{Waits}
 use Rattle.signals.specs.declared.window.Waits.the-variants.{Nothing, One, Two, Five, Six, Seven, Zone, Nine, Limit}
@@ -120,13 +121,24 @@ unfolding oneOn missedOf windowOlder
 one-closed m w e = rw e
 
 -- what waits for nothing takes no press and is not missed
-none-answers : (w : Window) (weight : ℕ) → w .waits ≡ Nothing → answersOf w weight ≡ false
+pub none-answers : (w : Window) (weight : ℕ) → w .waits ≡ Nothing → answersOf w weight ≡ false
 unfolding answersOf
 none-answers w weight e = rw (e, zero-div)
 
 none-missed : (m : ℕ) (w : Window) → w .waits ≡ Nothing → missedOf (windowOlder m w) ≡ false
 unfolding missedOf windowOlder
 none-missed m w e = rw e
+
+-- a window is missed exactly where its time is over
+pub missed-exactly : (m : ℕ) (w : Window) → (missedOf (windowOlder m w) ≡ true) ↔ ((isOpen (w .waits) ≡ true) × (w .left ≤ 1))
+unfolding missedOf windowOlder
+missed-exactly m w = (only, when)
+  where
+    only : (isOpen (w .waits) && eqb (w .left - 1) 0) ≡ true → (isOpen (w .waits) ≡ true) × (w .left ≤ 1)
+    only h = let q = and-split (isOpen (w .waits)) (eqb (w .left - 1) 0) h in let z = eqb-true (w .left - 1) 0 (q .1) in (q .0, omega arith)
+
+    when : (isOpen (w .waits) ≡ true) × (w .left ≤ 1) → (isOpen (w .waits) && eqb (w .left - 1) 0) ≡ true
+    when h = let low = h .1 in rw (h .0, eq-eqb (w .left - 1) 0 (omega arith))
 
 module _ (way : ℕ → ℕ) (w : Window) (o : isOpen (w .waits) ≡ true) (some : 1 ≤ w .left) where
   -- while it has time left, time is all that happens

@@ -13,6 +13,7 @@ use mathlib.Core.Logic.{_⊎_, _↔_}
 use lib.ListN.{length}
 use Rattle.leaf.specs.Choosing.{pick}
 use Rattle.leaf.specs.Numbers.{bitOf, agedOf, furtherOf}
+use Rattle.leaf.specs.Buttons.{crossingButton}
 use Rattle.card.specs.declared.Settings.{Settings}
 use Rattle.card.specs.Card.{zones, reminds, readsInBts}
 use Rattle.signals.specs.declared.window.Waits.the-variants as waits
@@ -22,7 +23,7 @@ use Rattle.signals.specs.Windows.{missTime, zoneMiss, closed, opened, isOpen, w
 use Rattle.signals.specs.MainControl.{mainOf}
 use Rattle.sides.specs.Crossing.{crossingOlder, unprotectedSet}
 use Rattle.desk.specs.declared.state.Desk.{Desk}
-use Rattle.desk.specs.State.{withWindow, freshDesk}
+use Rattle.desk.specs.State.{withWindow, withSide, freshDesk}
 use Rattle.desk.specs.Clock.{begun}
 use Rattle.beacons.specs.Beacons.{readsOf, zoneMet}
 use Rattle.step.specs.declared.Input.{Input}
@@ -53,12 +54,33 @@ pub record TimeOver (x : Input) (d : Desk) (which : Which) : Type 0 where
   pub stands : Open x d which
   pub over : windowOf which d .left ≤ 1
 
--- or the sample neither misses nor answers it: there is time left, and no pressed button is one that the window, a sample older, waits for
--- (button k has weight 2 to the k)
+-- "A right press at ages 1..29 answers": button k, of weight 2 to the k, is pressed, and the window, a sample older, waits for it; "age 30 is a
+-- miss, even with a press": its time is not over
+pub record Right (x : Input) (d : Desk) (which : Which) (k : ℕ) : Type 0 where
+  pub pressed : bitOf (x .buttons) (2 ^ k) ≡ true
+  pub waited : answersOf (windowOlder (x .m) (windowOf which d)) (2 ^ k) ≡ true
+  pub in-time : TimeOver x d which → ⊥
+
+-- "buttons, lowest bit first": the main window takes its lowest right press, and is closed for the others
+pub record MainTakes (x : Input) (d : Desk) (k : ℕ) : Type 0 where
+  pub right : Right x d main k
+  pub lowest : (j : ℕ) → Right x d main j → k ≤ j
+
+-- "A press serves one use: main, then side, then others": a right press answers, the side window only one that the main window does not take
+pub record Answers (x : Input) (d : Desk) (which : Which) (k : ℕ) : Type 0 where
+  pub right : Right x d which k
+  pub free : which ≡ side → MainTakes x d k → ⊥
+
+-- the sample neither misses nor answers it: there is time left, and no press answers
 pub record Unanswered (x : Input) (d : Desk) (which : Which) : Type 0 where
   pub stands : Open x d which
   pub time : 2 ≤ windowOf which d .left
-  pub no-press : (k : ℕ) → bitOf (x .buttons) (2 ^ k) ≡ true → answersOf (windowOlder (x .m) (windowOf which d)) (2 ^ k) ≡ true → ⊥
+  pub no-answer : (k : ℕ) → Answers x d which k → ⊥
+
+-- and exactly so it is: the beacon finds an unanswered window a sample older, and none where a press answers it
+pub record AnswerLaws (s : Settings) (top : ℕ) (x : Input) (d : Desk) (which : Which) : Type 0 where
+  pub stays : Unanswered x d which → windowOf which (atBeacon s top x d) ≡ windowOlder (x .m) (windowOf which d)
+  pub answered : (k : ℕ) → Open x d which → Answers x d which k → windowOf which (atBeacon s top x d) ≡ closed
 
 -- "A beacon is read when its code differs from that of the accepted sample before"
 abbrev pub reads : Settings → Input → Desk → Bool
@@ -100,9 +122,22 @@ beacon7 = record { m = 0; still = true; beacon = 7; buttons = 0; bts = false }
 abbrev pub lentDesk : Settings → ℕ → Desk
 lentDesk s top = withWindow (opened waits.Seven missTime) (stepOf s top beacon7 waitingDesk .desk)
 
+-- and the same of the side window: a beacon 10 read over a beacon 9, with button 5, for which both windows wait and which the main one takes
+abbrev pub sharingDesk : Desk
+sharingDesk =
+    withWindow (record { waits = waits.One; left = 20; age = 10; distance = 0 })
+    (withSide (record { waits = waits.Nine; left = 10; age = 20; distance = 0 }) freshDesk)
+
+abbrev pub beacon10 : Input
+beacon10 = record { m = 0; still = true; beacon = 10; buttons = crossingButton; bts = false }
+
+abbrev pub sideLentDesk : Settings → ℕ → Desk
+sideLentDesk s top = withSide (opened waits.Limit missTime) (stepOf s top beacon10 sharingDesk .desk)
+
 pub record NoLending : Type 0 where
-  -- it is outside the zone, and no desk that the law allows after that sample is the slip's
+  -- the beacon 7 is outside the zone; no desk that the law allows after these samples is the slip's
   pub not-lent : (s : Settings) (top : ℕ) → WindowAfter s top beacon7 waitingDesk (lentDesk s top) main → ⊥
+  pub side-not-lent : (s : Settings) (top : ℕ) → WindowAfter s top beacon10 sharingDesk (sideLentDesk s top) side → ⊥
 
 -- ---- "age 30 is a miss, even with a press: cause 1 main, cause 2 side, and 1 counts as announcement, 9 as unprotected crossing."
 

@@ -1,0 +1,43 @@
+"""ask.py PROGRAM [ARGUMENT..]: runs ride, trace or show_card for a person, with a status; a refused ride is said in words too."""
+
+import sys
+
+import desk
+import plain
+import programs
+
+USAGES = {
+    "ride": """usage: ./ride CARD < RECORDING
+
+Prints the ride: under a heading a line a sample, with its number, the supervised speed in hundredths of km/h, the lamps and the
+cause of the brake. Where the ride is refused the last line is `refused` and the number, and standard error has it in words.""",
+    "trace": """usage: ./trace CARD < RECORDING
+
+Prints the ride as ./ride does, with two more columns: the crossing icon (0 none, 1 protected, 2 unprotected) and whether the limit
+stands (0, 1).""",
+    "show_card": """usage: ./show_card FILE
+
+Lists the settings of the card in FILE, or says why it is refused. bench/unhex makes bytes of a hex dump.""",
+}
+
+
+def ride(name, card, given=None):
+    """Prints the ride of a recording, standard input where no other is given; a refusal is said in words too. Gives the status."""
+    heard = programs.pass_on(name, [card], given)
+    if heard.refusal:
+        desk.say_refusal(int(heard.refusal.split()[1]), heard.lines - 2)  # the heading and the refusal are lines too
+    return heard.status()
+
+
+def main(name, arguments):
+    if len(arguments) != 1:
+        raise plain.Usage
+    if name == "show_card":
+        return programs.pass_on(name, arguments).status()
+    plain.check_input("recording", USAGES[name])
+    return ride(name, arguments[0])
+
+
+if __name__ == "__main__":
+    program = sys.argv[1]
+    plain.run(program, USAGES[program], lambda arguments: main(program, arguments), sys.argv[2:])

@@ -1,0 +1,122 @@
+"""How every program here ends: with a status and, where that is 2, with one plain line on standard error.
+
+0: answered. 1: refused, be it a card, a sheet, a ride, a sample or a tone. 2: usage, a file that cannot be read, or output that
+could not be written. A reader that closes a pipe has what it wanted: that is no fault.
+"""
+
+import errno
+import os
+import sys
+
+STATUS = "Status: 0 answered, 1 refused, 2 usage, a file that cannot be read, or output that could not be written."
+
+
+class Ends(Exception):
+    """Ends the program with status 2. What there is to say stands in the exception, unless it is said already."""
+
+
+class Usage(Exception):
+    """The arguments are not those of the usage."""
+
+
+class Enough(Exception):
+    """The reader of the output has closed it."""
+
+
+def reason(error):
+    """An error of the system, in a few words."""
+    if isinstance(error, FileNotFoundError):
+        return "there is no such file"
+    if isinstance(error, IsADirectoryError):
+        return "it is a folder"
+    if isinstance(error, PermissionError):
+        return "no permission"
+    if error.errno == errno.EBADF:
+        return "it is closed"
+    return error.strerror[:1].lower() + error.strerror[1:]
+
+
+def say(text):
+    """Writes to standard output, at once."""
+    data = text if isinstance(text, bytes) else os.fsencode(text)
+    while data:
+        try:
+            data = data[os.write(1, data):]
+        except BrokenPipeError:
+            raise Enough from None
+        except OSError as error:
+            raise Ends(f"cannot write to standard output: {reason(error)}") from None
+
+
+def complain(line):
+    """Writes a line to standard error; where that is lost too, nothing is left to do."""
+    try:
+        os.write(2, (line if isinstance(line, bytes) else os.fsencode(line)) + b"\n")
+    except OSError:
+        pass
+
+
+def hold_descriptors():
+    """Where a standard descriptor is closed, something takes its place that can do no more than it could."""
+    for number, flags in enumerate((os.O_WRONLY, os.O_RDONLY, os.O_RDONLY)):
+        try:
+            os.fstat(number)
+        except OSError:
+            os.open(os.devnull, flags)
+
+
+def check_input(what, usage=None):
+    """Is there a standard input to read? With a usage it must be a file or a pipe: nobody types those bytes."""
+    try:
+        os.read(0, 0)
+    except OSError as error:
+        raise Ends(f"cannot read {what} on standard input: {reason(error)}") from None
+    if usage and os.isatty(0):
+        raise Ends(f"no {what} on standard input; {first_line(usage)}")
+
+
+def standard_input(what, usage, most=-1):
+    """The bytes on standard input, or the first so many of them."""
+    check_input(what, usage)
+    try:
+        with os.fdopen(0, "rb", closefd=False) as source:
+            return source.read(most)
+    except OSError as error:
+        raise Ends(f"cannot read {what} on standard input: {reason(error)}") from None
+
+
+def file_bytes(name, most=-1):
+    """The bytes of a file, or the first so many of them."""
+    try:
+        with open(name, "rb") as source:
+            return source.read(most)
+    except OSError as error:
+        raise Ends(f"cannot read {name}: {reason(error)}") from None
+
+
+def first_line(usage):
+    return usage.split("\n", 1)[0]
+
+
+def run(name, usage, work, arguments):
+    """Does the work with the arguments, and ends with the status that it gives."""
+    hold_descriptors()
+    try:
+        if arguments[:1] == ["--help"]:
+            say(f"{usage}\n\n{STATUS}\n")
+            status = 0
+        else:
+            status = work(arguments)
+    except Usage:
+        complain(f"{first_line(usage)}   (--help says more)")
+        status = 2
+    except Ends as ends:
+        if ends.args:
+            complain(f"{name}: {ends}")
+        status = 2
+    except Enough:
+        status = 0
+    except KeyboardInterrupt:
+        status = 130
+    sys.stdout = sys.stderr = None
+    os._exit(status)

@@ -1,0 +1,140 @@
+"""tell.py CARD < RECORDING: tells a ride as a page, a line for each sample at which something changes."""
+
+import sys
+import textwrap
+
+import desk
+import plain
+
+USAGE = """usage: ./tell CARD < RECORDING
+
+Tells a ride as a page: a line for each sample at which something changes, with its number and time, the metres travelled before it,
+the train's speed and its limit in km/h, and in words what is pressed and read, lamps, brake, crossing icon and limit. A refusal
+ends the page."""
+
+HEADING = f"{'n':>5} {'time':>7} {'metres':>8} {'speed':>7} {'limit':>7}   what happens"
+WIDTH = 120
+
+# A limit that falls along a curve falls by no more than the highest drop of a card, in hundredths of km/h.
+DROP = 255
+
+
+def kmh(hundredths):
+    return f"{hundredths / 100:.2f}"
+
+
+def listed(names):
+    return ", ".join(names) or "none"
+
+
+def curve(answers, i):
+    """Does the limit of sample i (from 0) fall along a curve?"""
+    return 0 < i < len(answers) and 0 < answers[i - 1].limit - answers[i].limit <= DROP
+
+
+def stays(answers, i):
+    """Has sample i + 1 the limit of sample i?"""
+    return i + 1 < len(answers) and answers[i + 1].limit == answers[i].limit
+
+
+def limit_words(answers, i):
+    """How the limit changes at sample i: a jump, the first sample of a curve, or its last where the limit then stays."""
+    if curve(answers, i):
+        if not curve(answers, i - 1):
+            yield "the limit begins to fall"
+        elif stays(answers, i):
+            yield f"the limit has fallen to {kmh(answers[i].limit)}"
+    elif i and answers[i].limit != answers[i - 1].limit:
+        yield f"the limit is {kmh(answers[i].limit)}"
+
+
+def driven(ride, i, sample, last):
+    """What the recording has new at a sample: mode, motion, presses, beacon."""
+    if sample.mode != last.mode:
+        yield f"mode {desk.MODES[sample.mode]}"
+    if bool(sample.pulses) != bool(last.pulses):
+        yield "moves" if sample.pulses else "stands"
+    if sample.buttons:
+        yield f"press: {listed(desk.names(sample.buttons))}"
+    beacon = ride.passes(i)
+    if beacon:
+        said = f"beacon {beacon}, {desk.BEACONS[beacon]}"
+        yield said if ride.reads(i) else f"{said}, not read in {desk.MODES[sample.mode]}"
+
+
+def answered(answer, last):
+    """What the answer has new at a sample, the limit aside."""
+    if answer.lamps != last.lamps:
+        yield f"lamps: {listed(desk.names(answer.lamps))}"
+    if answer.cause != last.cause:
+        yield f"brake on, cause {answer.cause}: {desk.CAUSES[answer.cause]}" if answer.cause else "brake off"
+    if answer.icon != last.icon:
+        yield f"crossing icon: {desk.ICONS[answer.icon]}"
+    if answer.standing != last.standing:
+        yield "limit control stands" if answer.standing else "limit control gone"
+
+
+def happenings(ride):
+    """For each accepted sample its number, the metres before it, and what happens there. The ride begins standing, in CONV, with
+    nothing lit."""
+    before, said = desk.Sample(0, 0, 0, 1), desk.Answer(0, 0, 0, 0, 0)
+    metres = 0
+    for i, (sample, answer) in enumerate(ride.steps()):
+        words = [*driven(ride, i, sample, before), *limit_words(ride.answers, i), *answered(answer, said)]
+        if i == 0:
+            words.insert(0, "the ride begins")
+        if i == len(ride.answers) - 1 and ride.refusal is None:
+            words.append("the ride ends")
+        yield i + 1, metres, sample, answer, words
+        metres += ride.card.travel(sample.pulses)
+        before, said = sample, answer
+
+
+def rows(ride):
+    """The lines of the page, a long one broken."""
+    for n, metres, sample, answer, words in happenings(ride):
+        if words:
+            speed = ride.card.speed(sample.pulses)
+            head = f"{n:5} {desk.clock(n - 1):>7} {metres:8.1f} {speed:7.2f} {kmh(answer.limit):>7}   "
+            yield textwrap.fill("; ".join(words), WIDTH, initial_indent=head, subsequent_indent=" " * len(head))
+
+
+def about(ride):
+    """What the page is about, in two lines."""
+    card, count = ride.card, len(ride.answers)
+    train = f"Train type {ride.kind}, T {desk.TYPES[ride.kind]} km/h."
+    yield f"Card: version {card.version}, vmax {card.vmax} km/h, {card.tick / 10:.1f} mm a pulse. {train}"
+    metres = sum(card.travel(sample.pulses) for sample, _ in ride.steps())
+    yield f"{count} samples, {desk.duration(count)}, {metres:.1f} m. Speeds in km/h; the limit is the supervised speed."
+
+
+def refused(ride):
+    """The refusal, with the sample that is at fault."""
+    line = f"refused {ride.refusal}: {ride.why()}"
+    if ride.refusal in desk.OF_SAMPLE:
+        bad = ride.samples[len(ride.answers)]
+        line += f" (pulses {bad.pulses}, beacon {bad.beacon}, buttons {bad.buttons:#x}, mode {bad.mode})"
+    return line
+
+
+def page(ride):
+    if ride.answers or ride.refusal is None:
+        yield from about(ride)
+        yield ""
+        yield HEADING
+        yield from rows(ride)
+    if ride.refusal is not None:
+        yield refused(ride)
+
+
+def main(arguments):
+    if len(arguments) != 1:
+        raise plain.Usage
+    ride = desk.given_ride(arguments[0], USAGE)
+    for line in page(ride):
+        plain.say(line + "\n")
+    return 0 if ride.refusal is None else 1
+
+
+if __name__ == "__main__":
+    plain.run("tell", USAGE, main, sys.argv[1:])
