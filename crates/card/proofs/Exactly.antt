@@ -59,8 +59,8 @@ pub out-fault : (v : ℕ) (s : Settings) (at : ℕ) → FirstOut baseKind v s at
 unfolding faultOf
 out-fault = ranges.out-fault baseKind base-placed
 
-out-some : {v : ℕ} {s : Settings} (at : ℕ) → FirstOut baseKind v s at → at ≡ 0 → ⊥
-out-some at f zero = omega (arith, f .stands)
+out-some : (v : ℕ) (s : Settings) (at : ℕ) → FirstOut baseKind v s at → at ≡ 0 → ⊥
+out-some = ranges.out-some baseKind base-placed
 
 -- ---- the reader
 
@@ -97,7 +97,7 @@ module _ (area : List ℕ) (h : ℕ) where
       let e = length-only (v .0, omega (arith, v .1, k .1)) l in
       rw (met-within (k .0) (k .1), le-leb 3 (length area) long, ne-eqb (byte area 2) 0 (λ e. omega (arith, v .0)), le-leb (byte area 2) h (v .1), eq-eqb (word area 0) (lengthOf (byte area 2)) e, lt-leb (lengthOf (byte area 2)) (length area) (omega (arith, e)))
   read-when (plain.out-of-range m at f) =
-      header-passes m ∙ rw (out-fault (byte area 2) (settingsOf area) at f, ne-eqb at 0 (out-some at f))
+      header-passes m ∙ rw (out-fault (byte area 2) (settingsOf area) at f, ne-eqb at 0 (out-some (byte area 2) (settingsOf area) at f))
   read-when (plain.accepted m) = header-passes (m .header) ∙ rw (met-fault (byte area 2) (settingsOf area) (card-settings m))
 
   version : eqb (byte area 2) 0 ≡ false → leb (byte area 2) h ≡ true → Within 1 h (byte area 2)
@@ -152,7 +152,7 @@ module _ (v : ℕ) (s : Settings) (room : ℕ) where
   write-when : {a : Answer Unit} → WrittenAs v s room a → writeCard v s room ≡ a
   unfolding writeCard answerBy orFault
   write-when (plain.unknown-version out) = rw (not-within out)
-  write-when (plain.out-of-range k at f) = rw (met-within (k .0) (k .1), out-fault v s at f, ne-eqb at 0 (out-some at f))
+  write-when (plain.out-of-range k at f) = rw (met-within (k .0) (k .1), out-fault v s at f, ne-eqb at 0 (out-some v s at f))
   write-when (plain.short k m short) =
       rw (met-within (k .0) (k .1), met-fault v s m, lt-leb (lengthOf v) room (short (lengthOf v) (length-is v)))
   write-when (plain.done m) =

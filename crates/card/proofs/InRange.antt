@@ -81,10 +81,11 @@ module _ (kind : Kind) (placed : Placed kind) (v : ℕ) (s : Settings) where
       cases true e = absurd (f .out (fault-met (eqb-true _ _ e) (f .setting) (f .ofCard)))
       cases false e = first-one _ at (fault-out (eqb-false _ _ e)) f
 
-  -- ---- the check
+  -- its place is not 0
+  pub out-some : (at : ℕ) → FirstOut kind v s at → at ≡ 0 → ⊥
+  out-some at f zero = omega (arith, f .stands, placed .low)
 
-  fault-some : (at : ℕ) → FirstOut kind v s at → at ≡ 0 → ⊥
-  fault-some at f zero = omega (arith, f .stands, placed .low)
+  -- ---- the check
 
   -- THE CHECK: what it answers, exactly when
   pub check-exactly : (a : Answer Unit) → (checkOf kind v s ≡ a) ↔ CheckedAs kind v s a
@@ -98,7 +99,7 @@ module _ (kind : Kind) (placed : Placed kind) (v : ℕ) (s : Settings) where
           cases false e = out-of-range _ (fault-out (eqb-false _ _ e))
 
       when : {b : Answer Unit} → CheckedAs kind v s b → checkOf kind v s ≡ b
-      when (out-of-range at f) = rw (out-fault at f, ne-eqb at 0 (fault-some at f))
+      when (out-of-range at f) = rw (out-fault at f, ne-eqb at 0 (out-some at f))
       when (in-range m) = rw (met-fault kind v s m)
 
   -- whether all are in range, asked without a place, is whether the check finds them so

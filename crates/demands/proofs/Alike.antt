@@ -24,7 +24,7 @@ use Rattle.session.specs.Session.{settingsInside, insideOf, refusedBy, carried,
 use Rattle.laws.proofs.Ranges.{settings-only}
 use Rattle.step_laws.proofs.Carried.{carried-laws}
 use Rattle.session.specs.Runs.{accepted, outcomes}
-use Rattle.demands.specs.Speaks.{Later, crossingFunction, zoneFunction, reminderFunction, btsFunction, laterFunctions, reminderDiffers, meetsZone, meetsReminder, differingSpeaks, silentFor}
+use Rattle.demands.specs.Speaks.{crossingFunction, zoneFunction, reminderFunction, btsFunction, laterFunctions, reminderDiffers, meetsZone, meetsReminder, differingSpeaks, silentFor}
 use Rattle.demands.proofs.Kept.{calm, stays-calm, calm-after}
 use Rattle.demands.proofs.Later.{later, AllSilent, all-silent, Entry, momentary, AllQuiet, all-fresh, all-stay}
 use Rattle.demands.proofs.Apart.{reminder-same, RemindsAlike, step-alike}

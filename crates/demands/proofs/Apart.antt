@@ -15,17 +15,15 @@ use Rattle.signals.specs.declared.control.MainKind.{MainKind}
 use Rattle.signals.specs.declared.control.MainKind.the-variants.{Clear, Start, ConditionalClear, Announcement, Preannouncement, Caution, BeforeStop, Stop, Zone}
 use Rattle.signals.specs.Windows.{asksOf}
 use Rattle.signals.specs.MainControl.{nearOf}
-use Rattle.signals.specs.Stop.{firstMet, remindedOf}
+use Rattle.signals.specs.Stop.{remindedOf}
 use Rattle.desk.specs.declared.state.Desk.{Desk}
 use Rattle.desk.specs.declared.clock.Turn.{Turn}
 use Rattle.desk.specs.State.{withCode, takenOver, modeChanged}
 use Rattle.desk.specs.Clock.{sameMode, deskOlder, reminded, mainCounts, advanced, begun}
-use Rattle.buttons.specs.Buttons.{pressesOf}
-use Rattle.beacons.specs.Beacons.{isBeacon, isSide, readsOf, zoneMet, reading3, reading7, readingOf, readIf, beaconTaken}
+use Rattle.beacons.specs.Beacons.{isSide, readsOf, zoneMet, reading7, readingOf, readIf, beaconTaken}
 use Rattle.step.specs.declared.Input.{Input}
 use Rattle.step.specs.declared.speed.Standing.{Standing}
 use Rattle.step.specs.Speed.{mainSpeed, none, alwaysAt, btsLimit, mainLimit, limitsBeside, leastOf, supervisedOf, crossingTurned}
-use Rattle.step.specs.Brake.{braked}
 use Rattle.step.specs.Step.{movedOf, answerOf, judgedOf, stepOf}
 use Rattle.step_laws.specs.Walk.{atBeacon, readsAt}
 use Rattle.demands.specs.Speaks.{same}

@@ -5,20 +5,17 @@ use mathlib.Core.Bool.{Bool, true, false}
 use mathlib.Core.Path.{_≡_, refl, ap}
 use mathlib.Core.List.{List}
 use lib.Dec.{lit≤, lit<}
-use lib.ListN.{length}
-use borrow.Author.Tests.{leb-true}
 use Rattle.leaf.specs.Choosing.{pick}
-use Rattle.leaf.specs.Bytes.{byte, word}
 use Rattle.leaf.specs.Answers.{Answer, given, refused, refusedAt, isGiven}
 use Rattle.card.specs.declared.Settings.{Settings}
-use Rattle.card.specs.Card.{lengthOf, rowAt}
+use Rattle.card.specs.Card.{rowAt, Same}
 use Rattle.card.specs.Ranges.{checkSettings}
 use Rattle.card.specs.Reading.{settingsFrom, settingsOf, readCard}
-use Rattle.card.specs.Plain.{SettingsMet}
-use Rattle.card.proofs.Accepted.{read-checks, accepted-only, settings-met}
-use Rattle.card.proofs.Same.{Same, same-word, same-row, same-part}
+use Rattle.card.proofs.InRange.{beside}
+use Rattle.card.proofs.Exactly.{card-settings}
+use Rattle.card.proofs.Accepted.{accepted-only}
+use Rattle.card.proofs.Same.{same-word, same-row, same-part}
 use Rattle.session.specs.declared.Sample.{Sample}
-use Rattle.session.specs.declared.Session.{Session}
 use Rattle.session.specs.declared.Outcome.{Outcome}
 use Rattle.session.specs.Types.{typeAllowed}
 use Rattle.session.specs.Session.{openingVersion, freshSession, openedAfter, openSession, settingsInside}
@@ -28,41 +25,14 @@ use Rattle.demands.specs.Speaks.{untilSpeaks}
 use Rattle.demands.proofs.Later.{later}
 use Rattle.demands.proofs.Alike.{alike-fresh}
 
--- "opening takes no version": settings in range beside any version are in range for it
-beside-2 : (v : ℕ) (s : Settings) → SettingsMet v s → SettingsMet openingVersion s
-beside-2 v s m =
-    record {
-      vmax-low = m .vmax-low;
-      vmax-high = m .vmax-high;
-      tick-low = m .tick-low;
-      tick-high = m .tick-high;
-      bts-low = m .bts-low;
-      bts-high = m .bts-high;
-      conditional-clear = m .conditional-clear;
-      announcement = m .announcement;
-      preannouncement = m .preannouncement;
-      caution = m .caution;
-      before-stop = m .before-stop;
-      crossing = m .crossing;
-      limit = m .limit;
-      start = m .start;
-      functions-none = λ e. absurd (omega arith);
-      functions-high = m .functions-high;
-      reminder-on = m .reminder-on;
-      reminder-off = m .reminder-off;
-    }
-
 module _ (area : List ℕ) (h : ℕ) (s : Settings) (read : readCard area h ≡ given s) where
   -- the settings are those of the card's bytes
   pub its-settings : s ≡ settingsOf area
   its-settings = accepted-only area h s read .1
 
+  -- "opening takes no version": settings in range beside any version are in range for it
   pub its-range : settingsInside s ≡ true
-  its-range = settings-when s (rw its-settings (beside-2 (byte area 2) (settingsOf area) (settings-met area h (accepted-only area h s read .0))))
-
-  -- the whole record is there
-  pub its-length : lengthOf (byte area 2) ≤ length area
-  its-length = leb-true _ _ (read-checks area h s read .0 .1 .1 .1 .1 .1 .0)
+  its-range = settings-when s (rw its-settings (beside (λ one. absurd (omega arith)) (card-settings area h (accepted-only area h s read .0))))
 
 -- the same bytes 3 to 38: the same settings but for later functions
 pub common : (a b : List ℕ) → Same a b 3 39 → settingsOf b ≡ later (settingsOf a) (settingsOf b)

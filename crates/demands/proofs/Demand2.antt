@@ -1,5 +1,4 @@
 -- Demand 2 holds.
-use mathlib.Core.Path.{_≡_, refl}
 use Rattle.card.proofs.Accepted.{accepted-when, accepted-only}
 use Rattle.card.proofs.RoundTrip.{round-trip}
 use Rattle.session.specs.Session.{ranOf}
@@ -17,5 +16,5 @@ demand-2 =
       always-inside = λ s train u xs h. inside-only _ (inside-laws .always-inside s train u xs h);
       answered = λ s x m. refusal-laws s x .accepted-as (refusal-laws s x .accepted .1 m);
       card-accepted = λ area highest s. (accepted-only area highest s, λ m. rw (m .1) (accepted-when area highest (m .0)));
-      reads-back = round-trip;
+      reads-back = λ version highest s buffer met above known. round-trip version highest s buffer met above (known .1);
     }

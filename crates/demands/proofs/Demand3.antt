@@ -11,9 +11,8 @@ use Rattle.leaf.specs.Bytes.{byte}
 use Rattle.leaf.specs.Choosing.{pick}
 use Rattle.leaf.specs.Answers.{given, refused}
 use Rattle.card.specs.declared.Settings.{Settings}
-use Rattle.card.specs.Card.{speaks}
+use Rattle.card.specs.Card.{speaks, Same}
 use Rattle.card.specs.Reading.{readCard}
-use Rattle.card.proofs.Same.{Same}
 use Rattle.card.proofs.Silence.{silence}
 use Rattle.card.proofs.Versions.{knows-1-refuses-2, same-card}
 use Rattle.step.specs.declared.Answer.{Answer}
@@ -30,7 +29,7 @@ use Rattle.printed.proofs.Silence.{print-silence}
 use Rattle.demands.specs.Runs.{rideOf, firstOf}
 use Rattle.demands.specs.Speaks.{untilSpeaks}
 use Rattle.demands.specs.Examples.{settings-R, settings-P, card-R}
-use Rattle.demands.specs.Demand3.{SameSpeaking, SameWithout, firstLines, Demand3, HypothesesMet, Partings}
+use Rattle.demands.specs.Demand3.{SameWithout, firstLines, Demand3, HypothesesMet, Partings}
 use Rattle.demands.proofs.Later.{later}
 use Rattle.demands.proofs.Alike.{alike-fresh}
 use Rattle.demands.proofs.Cards.{its-settings, its-range, common, opens, rides-alike}

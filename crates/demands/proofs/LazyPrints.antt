@@ -1,15 +1,15 @@
 -- The lazy printers pass where only the speaking bytes are asked after, and not where versions and functions are.
 use Prim.Native.Nat.{ℕ}
 use native.Mathlib.Omega.{arith}
-use mathlib.Core.Bool.{Bool, true, false, _&&_, _||_, not}
-use mathlib.Core.List.{List, [], _∷_, _++_}
-use mathlib.Core.Path.{_≡_, refl, ap, sym, _∙_}
+use mathlib.Core.Bool.{Bool, true, false, _&&_, _||_}
+use mathlib.Core.List.{List, [], _∷_}
+use mathlib.Core.Path.{_≡_, refl, ap, _∙_}
 use lib.Dec.{ltb, eqb}
 use lib.ListN.{getD}
 use borrow.Author.Tests.{eqb-true}
 use Rattle.leaf.specs.Choosing.{pick}
 use Rattle.leaf.specs.Bytes.{byte, long}
-use Rattle.card.specs.Card.{lengthOf, reminds, speaks}
+use Rattle.card.specs.Card.{reminds, speaks}
 use Rattle.card.specs.Reading.{settingsOf}
 use Rattle.rides.specs.Recording.{goodRecording, firstSamples}
 use Rattle.rides.specs.Ride.{startRide}

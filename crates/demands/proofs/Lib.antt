@@ -1,4 +1,6 @@
 pub mod Computes
+pub mod Answered
+pub mod Ridden
 pub mod Demand1
 pub mod Demand2
 pub mod Later
@@ -10,6 +12,8 @@ pub mod Lines
 pub mod Prints
 pub mod Demand3
 pub mod ShutOut
-pub mod Lazy
 pub mod Starred
+pub mod LazyLogics
+pub mod LazyCards
+pub mod LazyRides
 pub mod LazyPrints

@@ -1,17 +1,17 @@
 -- A printed line ends with its only newline, so that the first lines of a text are its first lines, whatever follows.
-use Prim.Native.Nat.{ℕ, zero, suc, _+_, _/_, _%_, _<_}
+use Prim.Native.Nat.{ℕ, zero, suc, _+_, _/_, _%_}
 use native.Mathlib.Omega.{arith}
 use mathlib.Core.Bool.{Bool, true, false, not, _&&_}
-use mathlib.Core.List.{List, [], _∷_, _++_, append-assoc, flatten}
+use mathlib.Core.List.{List, [], _∷_, _++_, append-nil, append-assoc, flatten}
 use mathlib.Core.Path.{_≡_, refl, ap, _∙_}
 use lib.Dec.{ltb, eqb}
-use lib.ListN.{take}
+use lib.ListN.{length, take}
 use borrow.Author.Tests.{ne-eqb, not-true}
 use Rattle.leaf.specs.Choosing.{pick, and-split}
 use Rattle.leaf.specs.Answers.{Answer, given, refused, refusedAt}
 use Rattle.card.specs.Reading.{readCard}
 use Rattle.step.specs.declared.Answer.{Answer as Told}
-use Rattle.text.specs.Decimal.{newline, blank, naught, digitOf, unitOf, upperOf, lowerOf, decimal, ended, line}
+use Rattle.text.specs.Decimal.{newline, blank, naught, digitOf, unitOf, upperOf, lowerOf, decimal, line}
 use Rattle.printed.specs.declared.Columns.{Columns}
 use Rattle.printed.specs.declared.Columns.the-variants.{Paper, Whole}
 use Rattle.printed.specs.Printed.{paperWords, wholeWords, refusedWord, heading, refusedLine, columnsOf, highest, printedRide, linesFrom, rideLines, rideOn, printedLines}
@@ -131,3 +131,39 @@ pub first-printed : (columns : Columns) (card recording : List ℕ) (n : ℕ)
 unfolding printedLines
 first-printed columns card recording n =
     rw (printed-lines columns card recording) (first-lines n _ (more (heading-is columns) (ride-lines columns (rideOn (readCard card highest) recording))))
+
+-- ---- each line has its sample's number
+
+none-before : (n : ℕ) → 0 + n ≡ n
+none-before n = omega arith
+
+shift : (k n : ℕ) → suc k + n ≡ k + suc n
+shift k n = omega arith
+
+-- of what is shown, numbered from n: one line more is that of the answer behind those before it
+one-more : (columns : Columns) (n : ℕ) (before rest : List (Answer Told)) (a : Told)
+    → take (suc (length before)) (linesFrom columns n (before ++ given a ∷ rest))
+    ≡ take (length before) (linesFrom columns n (before ++ given a ∷ rest)) ++ line (length before + n) (columnsOf columns a) ∷ []
+unfolding linesFrom
+one-more columns n [] rest a = rw (none-before n)
+one-more columns n (given x ∷ before) rest a = rw (one-more columns (suc n) before rest a, shift (length before) n)
+one-more columns n (refused m ∷ before) rest a = rw (one-more columns (suc n) before rest a, shift (length before) n)
+one-more columns n (refusedAt m place ∷ before) rest a = rw (one-more columns (suc n) before rest a, shift (length before) n)
+
+flatten-one : (ls : List (List ℕ)) (l : List ℕ) → flatten (ls ++ l ∷ []) ≡ flatten ls ++ l
+unfolding flatten
+flatten-one [] l = rw append-nil
+flatten-one (m ∷ ls) l = rw (flatten-one ls l) (simp append-assoc)
+
+pub numbered : (columns : Columns) (card recording : List ℕ) (before rest : List (Answer Told)) (a : Told)
+    → rideOn (readCard card highest) recording ≡ given (before ++ given a ∷ rest)
+    → (let k = suc (length before) in
+    firstLines (printedRide columns card recording) (suc k) ≡ firstLines (printedRide columns card recording) k ++ line k (columnsOf columns a))
+unfolding printedLines flatten
+numbered columns card recording before rest a e =
+    let k = length before in
+    let shown = linesFrom columns 1 (before ++ given a ∷ rest) in
+    let more = one-more columns 1 before rest a in
+    let number : k + 1 ≡ suc k = omega arith in
+    rw (first-printed columns card recording (suc (suc k)), first-printed columns card recording (suc k), e, more, flatten-one (take k shown) (line (k + 1) (columnsOf columns a)), number)
+    (simp append-assoc)

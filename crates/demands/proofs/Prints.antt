@@ -1,11 +1,11 @@
 -- Cards on which the answers are alike for some samples print as many lines alike, below the heading.
 use Prim.Native.Nat.{ℕ, suc}
 use mathlib.Core.Bool.{Bool, true, false}
-use mathlib.Core.Path.{_≡_, refl, ap}
-use mathlib.Core.List.{List, [], _∷_, flatten}
+use mathlib.Core.Path.{_≡_, refl}
+use mathlib.Core.List.{List, flatten}
 use lib.ListN.{take}
 use Rattle.leaf.specs.Choosing.{pick}
-use Rattle.leaf.specs.Answers.{Answer, given, refused}
+use Rattle.leaf.specs.Answers.{given, refused}
 use Rattle.card.specs.declared.Settings.{Settings}
 use Rattle.card.specs.Reading.{readCard}
 use Rattle.session.specs.declared.Sample.{Sample}
@@ -15,8 +15,8 @@ use Rattle.rides.specs.Recording.{goodRecording, trainOf, samplesOf}
 use Rattle.rides.specs.Ride.{startRide, shownFrom, wholeRide}
 use Rattle.rides.proofs.Runs.{shown-alike}
 use Rattle.printed.specs.declared.Columns.{Columns}
-use Rattle.printed.specs.Printed.{heading, highest, printedRide, rideLines, rideOn, printedLines}
-use Rattle.printed.proofs.Lines.{lines-alike, printed-lines}
+use Rattle.printed.specs.Printed.{highest, printedRide, rideLines, printedLines}
+use Rattle.printed.proofs.Lines.{lines-alike}
 use Rattle.demands.specs.Demand3.{firstLines}
 use Rattle.demands.proofs.Lines.{first-printed}
 

@@ -1,31 +1,37 @@
 -- None of what is shut out by name equals the definitions: samples on which S and the session differ, and inputs that are accepted.
 use Prim.Native.Nat.{ℕ}
 use native.Mathlib.Omega.{arith}
-use mathlib.Core.Bool.{true, false, false≢true}
+use mathlib.Core.Bool.{true, false≢true}
 use mathlib.Core.List.{List, [], _∷_, _++_}
 use mathlib.Core.Path.{_≡_, refl, ap, sym, _∙_}
 use lib.Ieee.{nan, ofBits, ofInt, le, mul, sub}
-use Rattle.leaf.specs.Bytes.{long}
-use Rattle.leaf.specs.Answers.{given, isGiven}
-use Rattle.card.specs.Reading.{readCard}
+use Rattle.leaf.specs.Bytes.{byte, long}
+use Rattle.leaf.specs.Answers.{given, refusedAt, isGiven}
+use Rattle.card.specs.declared.Settings.{Settings}
+use Rattle.card.specs.Card.{baseKind}
+use Rattle.card.specs.Plain.{FirstOut, ReadAs, WrittenAs}
+use Rattle.card.specs.Plain as plain
+use Rattle.card.specs.Reading.{settingsOf, readCard}
 use Rattle.card.specs.Writing.{writeCard}
-use Rattle.card.proofs.Examples.{cardA}
-use Rattle.card.proofs.Places.{read-place, write-place}
+use Rattle.card.specs.CardA.{cardA}
+use Rattle.tone.specs.Facts as facts
 use Rattle.tone.specs.Tones.{rowOk, sharesEarlier, goodAt, faultOf, rowsOf, sheetOf, readSheet, readFrom, classifyOf}
 use Rattle.step.specs.declared.Answer.{Answer as Told}
-use Rattle.tone.proofs.FirstFault.{refused-first}
 use Rattle.session.specs.declared.Sample.{Sample}
 use Rattle.session.specs.declared.Session.{Session}
 use Rattle.session.specs.declared.Sampled.{Sampled}
 use Rattle.session.specs.declared.Outcome.{Outcome}
-use Rattle.session.specs.Session.{freshSession, openSession, sampleOf}
+use Rattle.session.specs.Session.{openingVersion, freshSession, openSession, sampleOf}
 use Rattle.rides.specs.Recording.{goodRecording}
 use Rattle.rides.specs.Ride.{startRide}
-use Rattle.printed.proofs.End.{answered-prints}
 use Rattle.printed.proofs.Examples.{ride-A}
 use Rattle.demands.specs.Examples.{conv, shows, card-P}
 use Rattle.demands.specs.ShutOut.{Logic, document01, Equals, RefusesAll, OneSpeed, Repeats, Forgets, Untouched, ShutOut}
+use Rattle.demands.specs.Demand1.{SheetReadAs, OpenedAs}
+use Rattle.demands.specs.Demand1 as paper
 use Rattle.demands.proofs.Computes.{definitions}
+use Rattle.demands.proofs.Demand1.{demand-1}
+use Rattle.demands.proofs.Lines.{numbered}
 
 -- ---- three samples of card A, train type 6: standstill; beacon 7 at 108 km/h, over S; standstill again
 
@@ -112,6 +118,20 @@ accepts : Accepts
 unfolding definitions writeCard classifyOf readSheet sheetOf faultOf rowsOf rowOk goodAt sharesEarlier readFrom long ofBits ofInt le mul sub goodRecording startRide
 accepts = record { card = refl; write = refl; read = refl; tone = refl; opening = refl; recording = refl }
 
+-- ---- places
+
+read-at : {area : List ℕ} {highest n at : ℕ} → ReadAs area highest (refusedAt n at) → (n ≡ 5) × FirstOut baseKind (byte area 2) (settingsOf area) at
+read-at (plain.ReadAs.out-of-range header at f) = (refl, f)
+
+written-at : {version : ℕ} {s : Settings} {room n at : ℕ} → WrittenAs version s room (refusedAt n at) → (n ≡ 5) × FirstOut baseKind version s at
+written-at (plain.WrittenAs.out-of-range known at f) = (refl, f)
+
+opened-at : {s : Settings} {train n at : ℕ} → OpenedAs s train (refusedAt n at) → (n ≡ 5) × FirstOut baseKind openingVersion s at
+opened-at (paper.OpenedAs.refused-5 at f) = (refl, f)
+
+sheet-at : {area : List ℕ} {n place : ℕ} → SheetReadAs area (refusedAt n place) → (n ≡ 12) × facts.FirstFault area place
+sheet-at (paper.SheetReadAs.refused-12 place f) = (refl, f)
+
 pub shut-out : ShutOut
 shut-out =
     record {
@@ -126,8 +146,9 @@ shut-out =
       some-tone = λ h. false≢true (sym (h sheet nan) ∙ accepts .tone);
       some-opening = λ h. false≢true (sym (h cardA 6) ∙ accepts .opening);
       some-recording = λ h. false≢true (sym (h cardA ride-A) ∙ accepts .recording);
-      not-invented-read = read-place;
-      not-invented-write = write-place;
-      not-invented-sheet = refused-first;
-      not-invented-number = answered-prints;
+      not-invented-read = λ area highest n at e. read-at (demand-1 .cards area highest (refusedAt n at) .0 e);
+      not-invented-write = λ version s room n at e. written-at (demand-1 .writes version s room (refusedAt n at) .0 e);
+      not-invented-opening = λ s train n at e. opened-at (demand-1 .openings s train (refusedAt n at) .0 e);
+      not-invented-sheet = λ area n place e. sheet-at (demand-1 .sheets area (refusedAt n place) .0 e);
+      not-invented-number = numbered;
     }

@@ -2,42 +2,41 @@
 -- handed in comes back unchanged, no lent byte is altered."
 --
 -- Document 01: "A refusal returns its number (and place for 5, 12), is given in no other case, and leaves buffers and the handed-in
--- session unchanged." For each kind of input what is due is written down, case by case in the order in which document 01 has them, in plain
--- facts: `≡`, `≤` and `<` on bytes and fields. The demand: the answer is exactly what is due.
+-- session unchanged." For each kind of input it is written down what it is answered as, case by case in document 01's order, in plain facts:
+-- `≡`, `≤` and `<` on bytes and fields (of card and writer: `ReadAs` and `WrittenAs`, card's specs/Plain.antt). The demand: the answer
+-- is exactly that. So no other function meets it (`only-one`).
 use Prim.Native.Nat.{ℕ, _*_, _≤_, _<_}
-use mathlib.Core.Bool.{true, false}
-use mathlib.Core.List.{List}
+use mathlib.Core.List.{List, [], _∷_}
 use mathlib.Core.Logic.{_↔_}
 use mathlib.Core.Path.{_≡_}
 use lib.ListN.{length}
 use lib.Ieee.{Float}
-use Rattle.leaf.specs.Bytes.{byte}
-use Rattle.leaf.specs.Checks.{FirstFault}
 use Rattle.leaf.specs.Answers.{Answer, given, refused, refusedAt}
 use Rattle.leaf.specs.declared.Refusal.the-variants.{Number}
 use Rattle.card.specs.declared.Settings.{Settings}
-use Rattle.card.specs.Plain.{SettingsMet, CardMet, WriteMet}
-use Rattle.card.specs.Ranges.{checksOf}
-use Rattle.card.specs.Reading.{settingsOf, cardChecks, readCard}
-use Rattle.card.specs.Writing.{recordChecks, writeCard, written, leaves}
+use Rattle.card.specs.Card.{baseKind}
+use Rattle.card.specs.Plain.{FirstOut, SettingsMet, ReadAs, WrittenAs}
+use Rattle.card.specs.Reading.{readCard}
+use Rattle.card.specs.Writing.{writeCard, written, leaves}
 use Rattle.tone.specs.Facts as sheet
 use Rattle.tone.specs.declared.Sheet.{Sheet}
 use Rattle.tone.specs.declared.Reading.{Reading}
 use Rattle.tone.specs.Tones.{rowsOf, sheetOf, readSheet, readFrom, classifyOf}
+use Rattle.step.specs.declared.Answer.{Answer as Told}
 use Rattle.session.specs.declared.Sample.{Sample}
 use Rattle.session.specs.declared.Session.{Session}
 use Rattle.session.specs.declared.Sampled.{Sampled}
-use Rattle.session.specs.declared.Outcome.the-variants.{Refused}
-use Rattle.session.specs.Types.{typeAllowed}
+use Rattle.session.specs.declared.Outcome.the-variants.{Answered, Refused}
+use Rattle.session.specs.Types.{typeSpeed}
 use Rattle.session.specs.Session.{openingVersion, freshSession, openSession, carried, ranOf, sampleOf}
-use Rattle.rides.specs.Ride.{startRide}
-use Rattle.rides.specs.Recording.{RecordingMet}
+use Rattle.rides.specs.Recording.{RecordingMet, trainOf, samplesOf}
+use Rattle.rides.specs.Ride.{wholeRide}
 use Rattle.laws.specs.Ranges.{Inside}
 use Rattle.laws.specs.Refusals.{CodesMet, ModeMet}
 
--- the answer is due, and nothing else is
+-- the answer is as said, and nothing else is
 abbrev pub Exactly : {A : Type 0} → A → (A → Type 0) → Type 0
-Exactly {A} answer Due = (a : A) → (answer ≡ a) ↔ Due a
+Exactly {A} answer As = (a : A) → (answer ≡ a) ↔ As a
 
 -- ---- a tone sheet, and a tone: "12 | tone sheet bad, with place"
 
@@ -49,6 +48,20 @@ pub data SheetReadAs (area : List ℕ) : Answer Sheet → Type 0 where
 pub data ClassifiedAs (area : List ℕ) (tone : Float) : Answer Reading → Type 0 where
   refused-12 : (place : ℕ) → sheet.FirstFault area place → ClassifiedAs area tone (refusedAt 12 place)
   reads : sheet.Accepted area → ClassifiedAs area tone (given (readFrom 0 (rowsOf area 12) tone))
+
+-- ---- settings and a train type: "opening 5, 7"
+
+-- "train type not 1..8, or faster than vmax" is not so
+pub record TypeMet (train vmax : ℕ) : Type 0 where
+  pub low : 1 ≤ train
+  pub high : train ≤ 8
+  pub slow : typeSpeed train ≤ vmax
+
+pub data OpenedAs (s : Settings) (train : ℕ) : Answer Session → Type 0 where
+  -- "setting out of range, with place of the first"
+  refused-5 : (at : ℕ) → FirstOut baseKind openingVersion s at → OpenedAs s train (refusedAt 5 at)
+  refused-7 : SettingsMet openingVersion s → (TypeMet train (s .vmax) → ⊥) → OpenedAs s train (refused 7)
+  opened : SettingsMet openingVersion s → TypeMet train (s .vmax) → OpenedAs s train (given (freshSession s train))
 
 -- ---- a session and a sample: "sample 8, 9, 10, 11"
 
@@ -67,26 +80,34 @@ pub data SampledAs (s : Session) (x : Sample) : Sampled → Type 0 where
   refused-11 : Inside s → CodesMet x → x .pulses * s .settings .tick ≤ 100000 → (ModeMet s x → ⊥) → SampledAs s x (refusalBy 11 s)
   answered : Inside s → CodesMet x → x .pulses * s .settings .tick ≤ 100000 → ModeMet s x → SampledAs s x (ranOf (carried s x) s)
 
+-- ---- settings and a recording: "a ride 14, 7, its samples"
+
+-- its samples: each that is accepted is answered, the first that is refused ends the ride, and what came before stays
+pub data ShownAs : Session → List Sample → List (Answer Told) → Type 0 where
+  none : {s : Session} → ShownAs s [] []
+  answered : {s after : Session} {x : Sample} {a : Told} {xs : List Sample} {rest : List (Answer Told)}
+      → SampledAs s x (record { session = after; outcome = Answered a }) → ShownAs after xs rest → ShownAs s (x ∷ xs) (given a ∷ rest)
+  ended : {s : Session} {x : Sample} {n : ℕ} {xs : List Sample} → SampledAs s x (refusalBy n s) → ShownAs s (x ∷ xs) (refused n ∷ [])
+
+pub data RiddenAs (settings : Settings) (recording : List ℕ) : Answer (List (Answer Told)) → Type 0 where
+  -- "recording not exactly as long as stated, length not 6 + 6n with n ≤ 10,000, or version not 1"
+  refused-14 : ((n : ℕ) → RecordingMet recording n → ⊥) → RiddenAs settings recording (refused 14)
+  -- settings out of range, which no card that was read has
+  refused-5 : {n at : ℕ} → RecordingMet recording n → OpenedAs settings (trainOf recording) (refusedAt 5 at) → RiddenAs settings recording (refusedAt 5 at)
+  refused-7 : {n : ℕ} → RecordingMet recording n → OpenedAs settings (trainOf recording) (refused 7) → RiddenAs settings recording (refused 7)
+  ridden : {n : ℕ} {s : Session} {shown : List (Answer Told)} → RecordingMet recording n → OpenedAs settings (trainOf recording) (given s)
+      → ShownAs s (samplesOf recording) shown → RiddenAs settings recording (given shown)
+
+-- ---- the demand
+
 pub record Demand1 : Type 0 where
-  -- a card, and a reader's highest version
-  pub card-answered : (area : List ℕ) (highest : ℕ) → CardMet area highest → readCard area highest ≡ given (settingsOf area)
-  pub card-refused : (area : List ℕ) (highest n : ℕ) → readCard area highest ≡ refused n → FirstFault n (cardChecks area highest)
-  pub card-refused-at : (area : List ℕ) (highest n place : ℕ) → readCard area highest ≡ refusedAt n place
-      → (n ≡ 5) × FirstFault place (checksOf (byte area 2) (settingsOf area))
-  -- settings to write, and a buffer; "leaves buffers .. unchanged"
-  pub write-answered : (version : ℕ) (s : Settings) (room : ℕ) → WriteMet version s room → writeCard version s room ≡ given written
-  pub write-refused : (version : ℕ) (s : Settings) (room n : ℕ) → writeCard version s room ≡ refused n → FirstFault n (recordChecks version s room)
-  pub write-refused-at : (version : ℕ) (s : Settings) (room n place : ℕ) → writeCard version s room ≡ refusedAt n place
-      → (n ≡ 5) × FirstFault place (checksOf version s)
-  pub write-unchanged : (version : ℕ) (s : Settings) (buffer : List ℕ) → (writeCard version s (length buffer) ≡ given written → ⊥)
+  pub cards : (area : List ℕ) (highest : ℕ) → Exactly (readCard area highest) (ReadAs area highest)
+  pub writes : (version : ℕ) (s : Settings) (room : ℕ) → Exactly (writeCard version s room) (WrittenAs version s room)
+  -- "leaves buffers .. unchanged"
+  pub unwritten : (version : ℕ) (s : Settings) (buffer : List ℕ) → (writeCard version s (length buffer) ≡ given written → ⊥)
       → leaves (writeCard version s (length buffer)) version s buffer ≡ buffer
-  -- settings and a train type to open
-  pub open-answered : (s : Settings) (train : ℕ) → SettingsMet openingVersion s → typeAllowed train (s .vmax) ≡ true → openSession s train ≡ given (freshSession s train)
-  pub open-refused : (s : Settings) (train n : ℕ) → openSession s train ≡ refused n → (n ≡ 7) × SettingsMet openingVersion s × (typeAllowed train (s .vmax) ≡ false)
-  pub open-refused-at : (s : Settings) (train n place : ℕ) → openSession s train ≡ refusedAt n place → (n ≡ 5) × FirstFault place (checksOf openingVersion s)
-  -- a recording
-  pub recording-answered : (s : Settings) (recording : List ℕ) (n : ℕ) → RecordingMet recording n → startRide s recording ≡ openSession s (byte recording 5)
-  pub recording-refused : (s : Settings) (recording : List ℕ) → ((n : ℕ) → RecordingMet recording n → ⊥) → startRide s recording ≡ refused 14
   pub sheets : (area : List ℕ) → Exactly (readSheet area) (SheetReadAs area)
   pub tones : (area : List ℕ) (tone : Float) → Exactly (classifyOf area tone) (ClassifiedAs area tone)
+  pub openings : (s : Settings) (train : ℕ) → Exactly (openSession s train) (OpenedAs s train)
   pub samples : (s : Session) (x : Sample) → Exactly (sampleOf s x) (SampledAs s x)
+  pub rides : (settings : Settings) (recording : List ℕ) → Exactly (wholeRide settings recording) (RiddenAs settings recording)

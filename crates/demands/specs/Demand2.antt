@@ -10,7 +10,7 @@ use mathlib.Core.Path.{_≡_}
 use lib.ListN.{length}
 use Rattle.leaf.specs.Answers.{given}
 use Rattle.card.specs.declared.Settings.{Settings}
-use Rattle.card.specs.Plain.{CardMet, WriteMet}
+use Rattle.card.specs.Plain.{Known, CardMet, WriteMet}
 use Rattle.card.specs.Reading.{settingsOf, readCard}
 use Rattle.card.specs.Writing.{writeCard, written, leaves}
 use Rattle.session.specs.declared.Sample.{Sample}
@@ -34,5 +34,5 @@ pub record Demand2 : Type 0 where
   -- A card is accepted exactly when its version is known and its layout met, and it is read as the settings of its bytes.
   pub card-accepted : (area : List ℕ) (highest : ℕ) (s : Settings) → (readCard area highest ≡ given s) ↔ (CardMet area highest × (s ≡ settingsOf area))
   -- What is written reads back, whatever stood in the buffer, in every reader that knows its version.
-  pub reads-back : (version highest : ℕ) (s : Settings) (buffer : List ℕ) → WriteMet version s (length buffer) → version ≤ highest → highest ≤ 2
+  pub reads-back : (version highest : ℕ) (s : Settings) (buffer : List ℕ) → WriteMet version s (length buffer) → version ≤ highest → Known highest
       → (writeCard version s (length buffer) ≡ given written) × (readCard (leaves (writeCard version s (length buffer)) version s buffer) highest ≡ given s)

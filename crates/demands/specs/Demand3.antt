@@ -14,9 +14,8 @@ use Rattle.leaf.specs.Choosing.{pick}
 use Rattle.leaf.specs.Bytes.{byte}
 use Rattle.leaf.specs.Answers.{given, refused}
 use Rattle.card.specs.declared.Settings.{Settings}
-use Rattle.card.specs.Card.{lengthOf, speaks}
+use Rattle.card.specs.Card.{lengthOf, speaks, Same}
 use Rattle.card.specs.Reading.{settingsOf, readCard}
-use Rattle.card.proofs.Same.{Same}
 use Rattle.session.specs.declared.Sample.{Sample}
 use Rattle.session.specs.declared.Outcome.{Outcome}
 use Rattle.text.specs.Decimal.{newline}

@@ -1,22 +1,31 @@
 -- Lazy programs, by name. Of each: a statement that reads much like ours and lets it pass, and that ours does not.
 use Prim.Native.Nat.{ℕ}
-use mathlib.Core.Bool.{Bool, true, false}
+use mathlib.Core.Bool.{Bool, true, _&&_, not}
 use mathlib.Core.List.{List, [], _∷_, _++_, map}
 use mathlib.Core.Path.{_≡_}
 use lib.Dec.{eqb}
 use Rattle.leaf.specs.Choosing.{pick}
 use Rattle.leaf.specs.Bytes.{byte}
-use Rattle.leaf.specs.Answers.{Answer, given, refused, refusedAt, refusalOf}
+use Rattle.leaf.specs.Checks.{Check, FirstFault}
+use Rattle.leaf.specs.Answers.{Answer, given, refused, refusedAt, isGiven, refusalOf}
 use Rattle.card.specs.declared.Settings.{Settings}
+use Rattle.card.specs.Ranges.{checksOf, faultOf}
+use Rattle.card.specs.Plain.{CardMet, WriteMet, ReadAs, WrittenAs}
+use Rattle.card.specs.Reading.{settingsOf, cardChecks, readCard}
+use Rattle.card.specs.Writing.{recordChecks, writeCard, written}
 use Rattle.step.specs.declared.Answer.{Answer as Told}
 use Rattle.session.specs.declared.Sample.{Sample}
 use Rattle.session.specs.declared.Session.{Session}
 use Rattle.session.specs.declared.Sampled.{Sampled}
 use Rattle.session.specs.declared.Outcome.{Outcome}
 use Rattle.session.specs.declared.Outcome.the-variants.{Answered, Refused}
-use Rattle.session.specs.Session.{sampleOf}
+use Rattle.session.specs.Session.{openSession, sampleOf, outcomeOf}
+use Rattle.session.specs.Runs.{outcomes}
+use Rattle.rides.specs.Recording.{RecordingMet, trainOf, samplesOf}
+use Rattle.rides.specs.Ride.{freshRide, startRide, shownBy}
 use Rattle.text.specs.Decimal.{newline}
 use Rattle.printed.specs.Printed.{printedRide}
+use Rattle.demands.specs.Demand1.{Exactly, RiddenAs}
 use Rattle.demands.specs.Demand3.{Printer, SilentPrint, VersionsPrint, FunctionsPrint}
 use Rattle.demands.specs.ShutOut.{Logic, document01, Equals, OneSpeed, Repeats}
 
@@ -86,6 +95,105 @@ constantly s x = record { session = sampleOf s x .session; outcome = at8000 (sam
 pub record LogicsMissed : Type 0 where
   pub constant-missed : OneSpeedOfAll constantly → ⊥
   pub repeater-missed : (f : Session → Sample → Sampled) → ((s : Session) (x : Sample) → verdict (f s x .outcome) ≡ verdict (sampleOf s x .outcome)) → RepeatsAll f → ⊥
+
+-- ---- readers and writers
+
+-- A statement of an answer: what meets the facts is given; a number, or a place beside 5, is that of a check that fails, and every check
+-- before it holds.
+pub record FirstGiven {A : Type 0} (Met : Type 0) (a : A) (checks places : List Check) (answer : Answer A) : Type 0 where
+  pub met : Met → answer ≡ given a
+  pub number : (n : ℕ) → answer ≡ refused n → FirstFault n checks
+  pub place : (n at : ℕ) → answer ≡ refusedAt n at → (n ≡ 5) × FirstFault at places
+
+-- of every reader, and of every writer
+abbrev pub ReaderFirst : (List ℕ → ℕ → Answer Settings) → Type 0
+ReaderFirst read = (area : List ℕ) (highest : ℕ)
+    → FirstGiven (CardMet area highest) (settingsOf area) (cardChecks area highest) (checksOf (byte area 2) (settingsOf area)) (read area highest)
+
+abbrev pub WriterFirst : (ℕ → Settings → ℕ → Answer Unit) → Type 0
+WriterFirst write = (version : ℕ) (s : Settings) (room : ℕ)
+    → FirstGiven (WriteMet version s room) written (recordChecks version s room) (checksOf version s) (write version s room)
+
+-- one that gives 5 without its place
+abbrev pub bare : {A : Type 0} → Answer A → Answer A
+bare (given a) = given a
+bare (refused n) = refused n
+bare (refusedAt n at) = refused n
+
+-- one that asks after the settings before anything else
+abbrev pub eager : {A : Type 0} → ℕ → Answer A → Answer A
+eager fault answer = pick (eqb fault 0) answer (refusedAt 5 fault)
+
+abbrev pub bareReader : List ℕ → ℕ → Answer Settings
+bareReader area highest = bare (readCard area highest)
+
+abbrev pub eagerReader : List ℕ → ℕ → Answer Settings
+eagerReader area highest = eager (faultOf (byte area 2) (settingsOf area)) (readCard area highest)
+
+abbrev pub bareWriter : ℕ → Settings → ℕ → Answer Unit
+bareWriter version s room = bare (writeCard version s room)
+
+abbrev pub eagerWriter : ℕ → Settings → ℕ → Answer Unit
+eagerWriter version s room = eager (faultOf version s) (writeCard version s room)
+
+-- one that says done to everything
+abbrev pub willingWriter : ℕ → Settings → ℕ → Answer Unit
+willingWriter version s room = given written
+
+-- what demand 1 says of ours, of any reader and any writer
+abbrev pub ReadsExactly : (List ℕ → ℕ → Answer Settings) → Type 0
+ReadsExactly read = (area : List ℕ) (highest : ℕ) → Exactly (read area highest) (ReadAs area highest)
+
+abbrev pub WritesExactly : (ℕ → Settings → ℕ → Answer Unit) → Type 0
+WritesExactly write = (version : ℕ) (s : Settings) (room : ℕ) → Exactly (write version s room) (WrittenAs version s room)
+
+pub record CardsOut : Type 0 where
+  pub bare-reader-passes : ReaderFirst bareReader
+  pub bare-reader-out : ReadsExactly bareReader → ⊥
+  pub eager-reader-passes : ReaderFirst eagerReader
+  pub eager-reader-out : ReadsExactly eagerReader → ⊥
+  pub bare-writer-passes : WriterFirst bareWriter
+  pub bare-writer-out : WritesExactly bareWriter → ⊥
+  pub eager-writer-passes : WriterFirst eagerWriter
+  pub eager-writer-out : WritesExactly eagerWriter → ⊥
+  pub willing-writer-passes : WriterFirst willingWriter
+  pub willing-writer-out : WritesExactly willingWriter → ⊥
+
+-- ---- rides
+
+abbrev pub Rider : Type 0
+Rider = Settings → List ℕ → Answer (List (Answer Told))
+
+-- A statement of a ride: a bad recording is 14, and what opening refuses is refused.
+pub record Starts (ride : Rider) : Type 0 where
+  pub bad : (s : Settings) (recording : List ℕ) → ((n : ℕ) → RecordingMet recording n → ⊥) → ride s recording ≡ refused 14
+  pub unopened : (s : Settings) (recording : List ℕ) (n m : ℕ) → RecordingMet recording n → openSession s (trainOf recording) ≡ refused m → ride s recording ≡ refused m
+
+-- one that goes on after a sample that is refused
+abbrev pub goesOn : Rider
+goesOn s recording = mapped (λ u. map outcomeOf (outcomes u (samplesOf recording))) (startRide s recording)
+
+-- one of which a refused sample leaves nothing but its refusal
+abbrev pub allGiven : List (Answer Told) → Bool
+allGiven [] = true
+allGiven (a ∷ rest) = isGiven a && allGiven rest
+
+abbrev pub wiped : List (Answer Told) → List (Answer Told)
+wiped [] = []
+wiped (a ∷ rest) = pick (isGiven a && not (allGiven rest)) (wiped rest) (a ∷ rest)
+
+abbrev pub wipes : Rider
+wipes s recording = mapped (λ u. wiped (shownBy (freshRide u) (samplesOf recording))) (startRide s recording)
+
+-- what demand 1 says of ours, of any ride
+abbrev pub RidesExactly : Rider → Type 0
+RidesExactly ride = (s : Settings) (recording : List ℕ) → Exactly (ride s recording) (RiddenAs s recording)
+
+pub record RidesOut : Type 0 where
+  pub on-passes : Starts goesOn
+  pub on-out : RidesExactly goesOn → ⊥
+  pub wipes-passes : Starts wipes
+  pub wipes-out : RidesExactly wipes → ⊥
 
 -- ---- printers
 

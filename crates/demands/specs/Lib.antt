@@ -5,5 +5,5 @@ pub mod Speaks
 pub mod Examples
 pub mod Demand3
 pub mod ShutOut
-pub mod Lazy
 pub mod Starred
+pub mod Lazy

@@ -5,12 +5,13 @@ use Prim.Native.Nat.{ℕ, suc}
 use mathlib.Core.Bool.{false}
 use mathlib.Core.List.{List, [], _∷_, _++_, map}
 use mathlib.Core.Path.{_≡_}
+use lib.ListN.{length}
 use lib.Ieee.{Float}
 use Rattle.leaf.specs.Bytes.{byte}
-use Rattle.leaf.specs.Checks.{FirstFault}
 use Rattle.leaf.specs.Answers.{Answer, given, refusedAt, isGiven}
 use Rattle.card.specs.declared.Settings.{Settings}
-use Rattle.card.specs.Ranges.{checksOf}
+use Rattle.card.specs.Card.{baseKind}
+use Rattle.card.specs.Plain.{FirstOut}
 use Rattle.card.specs.Reading.{settingsOf, readCard}
 use Rattle.card.specs.Writing.{writeCard}
 use Rattle.tone.specs.Facts as sheet
@@ -21,13 +22,12 @@ use Rattle.session.specs.declared.Session.{Session}
 use Rattle.session.specs.declared.Sampled.{Sampled}
 use Rattle.session.specs.declared.Outcome.{Outcome}
 use Rattle.session.specs.declared.Outcome.the-variants.{Answered, Refused}
-use Rattle.session.specs.Session.{openSession, sampleOf}
+use Rattle.session.specs.Session.{openingVersion, openSession, sampleOf}
 use Rattle.text.specs.Decimal.{line}
-use Rattle.rides.specs.declared.ride.Ride.{Ride}
-use Rattle.rides.specs.declared.ride.Shown.the-variants as shown
-use Rattle.rides.specs.Ride.{startRide, rideAfter, turnAt}
+use Rattle.rides.specs.Ride.{startRide}
 use Rattle.printed.specs.declared.Columns.{Columns}
-use Rattle.printed.specs.Printed.{columnsOf, linesOf}
+use Rattle.printed.specs.Printed.{columnsOf, highest, printedRide, rideOn}
+use Rattle.demands.specs.Demand3.{firstLines}
 use Rattle.demands.specs.Runs.{runFrom}
 
 -- ---- a logic
@@ -97,12 +97,15 @@ pub record ShutOut : Type 0 where
   pub some-tone : ((area : List ℕ) (tone : Float) → isGiven (classifyOf area tone) ≡ false) → ⊥
   pub some-opening : ((s : Settings) (train : ℕ) → isGiven (openSession s train) ≡ false) → ⊥
   pub some-recording : ((s : Settings) (recording : List ℕ) → isGiven (startRide s recording) ≡ false) → ⊥
-  -- "an invented place": a place given by the reader, the writer or the sheet is that of the first fault there is
-  pub not-invented-read : (area : List ℕ) (highest n place : ℕ) → readCard area highest ≡ refusedAt n place
-      → (n ≡ 5) × FirstFault place (checksOf (byte area 2) (settingsOf area))
-  pub not-invented-write : (version : ℕ) (s : Settings) (room n place : ℕ) → writeCard version s room ≡ refusedAt n place → (n ≡ 5) × FirstFault place (checksOf version s)
+  -- "an invented place": a place given by the reader, the writer, opening or the sheet is that of the first fault there is
+  pub not-invented-read : (area : List ℕ) (highest n at : ℕ) → readCard area highest ≡ refusedAt n at
+      → (n ≡ 5) × FirstOut baseKind (byte area 2) (settingsOf area) at
+  pub not-invented-write : (version : ℕ) (s : Settings) (room n at : ℕ) → writeCard version s room ≡ refusedAt n at → (n ≡ 5) × FirstOut baseKind version s at
+  pub not-invented-opening : (s : Settings) (train n at : ℕ) → openSession s train ≡ refusedAt n at → (n ≡ 5) × FirstOut baseKind openingVersion s at
   pub not-invented-sheet : (area : List ℕ) (n place : ℕ) → readSheet area ≡ refusedAt n place → (n ≡ 12) × sheet.FirstFault area place
-  -- "an invented .. printed sample number": the line of an answered sample stands behind those before it, numbered one more
-  pub not-invented-number : (columns : Columns) (r : Ride) (recording : List ℕ) (k : ℕ) (a : Told)
-      → turnAt (rideAfter r recording k) recording k .shown ≡ shown.Answered a
-      → linesOf columns r recording (suc k) ≡ linesOf columns r recording k ++ line (suc k) (columnsOf columns a)
+  -- "an invented .. printed sample number": where the ride on a card answers a to its k-th sample, the line below the first k, the heading
+  -- among them, is that answer's, numbered k
+  pub not-invented-number : (columns : Columns) (card recording : List ℕ) (before rest : List (Answer Told)) (a : Told)
+      → rideOn (readCard card highest) recording ≡ given (before ++ given a ∷ rest)
+      → (let k = suc (length before) in
+      firstLines (printedRide columns card recording) (suc k) ≡ firstLines (printedRide columns card recording) k ++ line k (columnsOf columns a))

@@ -11,7 +11,6 @@ use Rattle.curve.specs.Curve.{rowSpeed}
 use Rattle.signals.specs.MainControl.{mainOf}
 use Rattle.signals.specs.declared.control.MainKind.the-variants.{BeforeStop}
 use Rattle.desk.specs.State.{withMain, freshDesk}
-use Rattle.session.specs.declared.Sample.{Sample}
 use Rattle.session.specs.declared.Session.{Session}
 use Rattle.session.specs.declared.Outcome.{Outcome}
 use Rattle.session.specs.Session.{openSession, sampleOf}

@@ -1,13 +1,11 @@
--- The lazy programs are what they are said to be, and none meets what is stated.
+-- The lazy logics are of the kinds that are shut out, and said of all samples the kinds would not have them.
 use Prim.Native.Nat.{ℕ}
 use native.Mathlib.Omega.{arith}
-use mathlib.Core.Bool.{Bool, true, false}
 use mathlib.Core.List.{List, [], _∷_, map}
 use mathlib.Core.Path.{_≡_, refl, ap, sym, _∙_}
 use Rattle.leaf.specs.Answers.{Answer, given, refused, refusedAt}
 use Rattle.leaf.specs.declared.Refusal.the-variants.{Number}
-use Rattle.card.specs.declared.Settings.{Settings}
-use Rattle.card.proofs.Examples.{cardA}
+use Rattle.card.specs.CardA.{cardA}
 use Rattle.step.specs.declared.Answer.{Answer as Told}
 use Rattle.session.specs.declared.Sample.{Sample}
 use Rattle.session.specs.declared.Session.{Session}
@@ -18,8 +16,8 @@ use Rattle.session.specs.Session.{freshSession, sampleOf}
 use Rattle.demands.specs.Examples.{conv, shows}
 use Rattle.demands.specs.Demand1.{SampledAs}
 use Rattle.demands.specs.Demand1 as paper
-use Rattle.demands.specs.ShutOut.{Logic, document01, Equals, answersIn, All, OneSpeed, Repeated, Repeats}
-use Rattle.demands.specs.Lazy.{mapped, verdict, RefusesAlike, at8000, eightThousand, again, firstAgain, repeater, LogicsOut, speedTold, OneSpeedOfAll, RepeatsAll, constantly, LogicsMissed}
+use Rattle.demands.specs.ShutOut.{document01, answersIn, All, OneSpeed, Repeated, Repeats}
+use Rattle.demands.specs.Lazy.{mapped, verdict, at8000, eightThousand, again, firstAgain, repeater, LogicsOut, LogicsMissed}
 use Rattle.demands.proofs.Computes.{definitions}
 use Rattle.demands.proofs.Demand1.{demand-1}
 use Rattle.demands.proofs.ShutOut.{shut-out}
