@@ -2,6 +2,7 @@
 
 use crate::card::{self, Row, Settings};
 use crate::cards::{unhex, CARD_A, CARD_P, CARD_R, CARD_R2, CARD_RL};
+use crate::cases::hex;
 use crate::check::SHEET;
 
 /// Splitmix64: the same seed gives the same numbers everywhere.
@@ -39,7 +40,7 @@ impl Rng {
     }
 }
 
-pub fn batch(kind: &str, seed: u64, size: u64) -> Option<Vec<u8>> {
+pub fn batch(kind: &str, seed: u64, size: u64) -> Option<String> {
     let mut rng = Rng::new(kind, seed);
     let case = match kind {
         "cards" => card_case,
@@ -47,7 +48,7 @@ pub fn batch(kind: &str, seed: u64, size: u64) -> Option<Vec<u8>> {
         "tones" => tone_case,
         _ => return None,
     };
-    Some((0..size).flat_map(|_| case(&mut rng)).collect())
+    Some((0..size).map(|_| case(&mut rng)).collect())
 }
 
 /// Random settings in range: rows of any shape.
@@ -185,16 +186,13 @@ pub fn card_area(rng: &mut Rng) -> Vec<u8> {
     area
 }
 
-fn card_case(rng: &mut Rng) -> Vec<u8> {
+fn card_case(rng: &mut Rng) -> String {
     let area = card_area(rng);
-    let highest = if rng.chance(65) { 2 } else { rng.pick(&[0, 1, 1, 1, 2, 3, 4, 255]) };
-    let mut case = vec![highest];
-    case.extend((area.len() as u16).to_be_bytes());
-    case.extend(area);
-    case
+    let highest: u8 = if rng.chance(65) { 2 } else { rng.pick(&[0, 1, 1, 1, 2, 3, 4, 255]) };
+    format!("area {}\nread {highest:02x}\n", hex(&area))
 }
 
-fn settings_case(rng: &mut Rng) -> Vec<u8> {
+fn settings_case(rng: &mut Rng) -> String {
     let (mut version, mut s) = good_settings(rng);
     if rng.chance(55) {
         bend(rng, &mut s);
@@ -206,14 +204,11 @@ fn settings_case(rng: &mut Rng) -> Vec<u8> {
         version = rng.pick(&[0, 1, 2, 3, 255]);
     }
     let room = if rng.chance(50) { rng.pick(&[0, 38, 39, 40, 43, 44, 45, 64]) } else { rng.within(0, 64) };
-    let mut case = vec![version];
     // A version 2 record carries the settings in order, but zeroes X and Y with bit 2 off: they go in as they are.
-    case.extend(&card::record(2, &s)[3..40]);
-    case.extend(s.x.to_be_bytes());
-    case.extend(s.y.to_be_bytes());
-    case.extend((room as u16).to_be_bytes());
-    case.push(rng.byte());
-    case
+    let mut area = card::record(2, &s)[..40].to_vec();
+    area.extend(s.x.to_be_bytes());
+    area.extend(s.y.to_be_bytes());
+    format!("area {}\nwrite {version:02x} {room:02x} {:02x}\n", hex(&area), rng.byte())
 }
 
 fn next_up(tone: f32) -> f32 {
@@ -303,7 +298,7 @@ fn any_tone(rng: &mut Rng, rows: &[[f32; 3]]) -> u32 {
     }
 }
 
-fn tone_case(rng: &mut Rng) -> Vec<u8> {
+fn tone_case(rng: &mut Rng) -> String {
     let known = rng.chance(30);
     let mut rows = good_rows(rng);
     if known {
@@ -331,8 +326,5 @@ fn tone_case(rng: &mut Rng) -> Vec<u8> {
         5 | 6 => area.extend([0xaa; 9]),
         _ => {}
     }
-    let mut case = (area.len() as u16).to_be_bytes().to_vec();
-    case.extend(area);
-    case.extend(any_tone(rng, &rows).to_be_bytes());
-    case
+    format!("area {}\ntone {:08x}\n", hex(&area), any_tone(rng, &rows))
 }

@@ -53,10 +53,10 @@ press-calm Pressed h = h
 press-calm Second h = refl
 
 -- where its first lighting does not come, a calm reminder stays as it is, whatever X and Y are
-pub stays-calm : (c : Main) (function2 : Bool) (x y : ℕ) (r : Reminder) → calm (r .phase) ≡ true → firstMet c r ≡ false
-    → remindedOf c function2 x y r ≡ r
+pub stays-calm : (c : Main) (on : Bool) (x y : ℕ) (r : Reminder) → calm (r .phase) ≡ true → firstMet c r ≡ false
+    → remindedOf c on x y r ≡ r
 unfolding remindedOf reminderMissed secondMet
-stays-calm c function2 x y r h e = rw (unlit (r .phase) h, unpressed (r .phase) h, e)
+stays-calm c on x y r h e = rw (unlit (r .phase) h, unpressed (r .phase) h, e)
 
 -- ---- through a sample
 

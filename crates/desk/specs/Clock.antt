@@ -36,7 +36,7 @@ deskOlder m d =
 
 -- "reminders"
 unfoldable pub reminded : Bool → ℕ → ℕ → Desk → Desk
-reminded function2 x y d = withReminder (remindedOf (d .main) function2 x y (d .reminder)) d
+reminded reminds x y d = withReminder (remindedOf (d .main) reminds x y (d .reminder)) d
 
 -- ".. and 1 counts as announcement, 9 as unprotected crossing." "Controls set by an answer, miss or displacement keep the reading's age
 -- and distance."
@@ -60,13 +60,13 @@ abbrev pub missCause : Bool → Bool → Bool → ℕ
 missCause main side reminder = pick main 1 (pick side 2 (pick reminder 3 0))
 
 unfoldable pub advanced : ℕ → Bool → ℕ → ℕ → Desk → Turn
-advanced m function2 x y d =
+advanced m reminds x y d =
     let old : Desk = deskOlder m d in
     record {
-      desk = sideMissed (missedOf (old .side)) (mainMissed (missedOf (old .window)) (reminded function2 x y old));
+      desk = sideMissed (missedOf (old .side)) (mainMissed (missedOf (old .window)) (reminded reminds x y old));
       cause = missCause (missedOf (old .window)) (missedOf (old .side)) (reminderMissed (old .reminder));
     }
 
 unfoldable pub begun : Bool → ℕ → Bool → ℕ → ℕ → Desk → Turn
-begun bts m function2 x y d =
-    pick (sameMode (d .bts) bts) (advanced m function2 x y d) (record { desk = modeChanged bts d; cause = 0 })
+begun bts m reminds x y d =
+    pick (sameMode (d .bts) bts) (advanced m reminds x y d) (record { desk = modeChanged bts d; cause = 0 })

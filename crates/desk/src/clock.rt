@@ -46,8 +46,8 @@ fn older(d: Desk, m: u32) -> Desk
     }
 }
 
-fn remind(d: Desk, function_2: bool, x: u16, y: u16) -> Desk
-    ensures { λ r. ⌜ r ≡ reminded function_2 x y d ⌝ }
+fn remind(d: Desk, reminds: bool, x: u16, y: u16) -> Desk
+    ensures { λ r. ⌜ r ≡ reminded reminds x y d ⌝ }
 {
     let main = d.main;
     let reminder = d.reminder;
@@ -55,7 +55,7 @@ fn remind(d: Desk, function_2: bool, x: u16, y: u16) -> Desk
     if off {
         return d;
     }
-    d.with_reminder(reminder.reminded(main, function_2, x, y))
+    d.with_reminder(reminder.reminded(main, reminds, x, y))
 }
 
 // A main window that goes unanswered: beacon 1 counts as announcement.
@@ -104,8 +104,8 @@ fn miss_side(d: Desk, missed: bool) -> Desk
     }
 }
 
-fn advance(d: Desk, m: u32, function_2: bool, x: u16, y: u16) -> Turn
-    ensures { λ r. ⌜ r ≡ advanced m function_2 x y d ⌝ }
+fn advance(d: Desk, m: u32, reminds: bool, x: u16, y: u16) -> Turn
+    ensures { λ r. ⌜ r ≡ advanced m reminds x y d ⌝ }
 {
     let d = older(d, m);
     let window = d.window;
@@ -114,7 +114,7 @@ fn advance(d: Desk, m: u32, function_2: bool, x: u16, y: u16) -> Turn
     let main_missed = window.missed();
     let side_missed = side.missed();
     let cause = miss_cause(main_missed, side_missed, reminder.missed());
-    let d = remind(d, function_2, x, y);
+    let d = remind(d, reminds, x, y);
     let none = cause == 0;
     if none {
         return Turn { desk: d, cause: 0 };
@@ -127,12 +127,12 @@ fn advance(d: Desk, m: u32, function_2: bool, x: u16, y: u16) -> Turn
 }
 
 // The first two steps of a sample, in the mode that it carries.
-pub fn begin(d: Desk, bts: bool, m: u32, function_2: bool, x: u16, y: u16) -> Turn
-    ensures { λ r. ⌜ r ≡ begun bts m function_2 x y d ⌝ }
+pub fn begin(d: Desk, bts: bool, m: u32, reminds: bool, x: u16, y: u16) -> Turn
+    ensures { λ r. ⌜ r ≡ begun bts m reminds x y d ⌝ }
 {
     let same = (d.bts & bts) | (!d.bts & !bts);
     if same {
-        advance(d, m, function_2, x, y)
+        advance(d, m, reminds, x, y)
     } else {
         Turn {
             desk: d.change_mode(bts),

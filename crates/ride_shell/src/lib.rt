@@ -29,12 +29,11 @@ fn text_room() -> [u8; TEXT_ROOM]
     [0; TEXT_ROOM]
 }
 
-// Says the heading: how many bytes it has.
+// Says the heading: how many bytes it has, 0 where it could not be written.
 fn say_heading(columns: Columns) -> usize {
     let mut space = [0u8; 64];
     let h = print_heading(columns, &mut space);
-    say(&space[..h]);
-    h
+    if say(&space[..h]) { h } else { 0 }
 }
 
 // The ride of the recording on standard input, on this card, below the heading of h bytes.
@@ -55,6 +54,9 @@ pub fn main_with(columns: Columns, usage: &[u8]) {
         return;
     }
     let h = say_heading(columns);
+    if h == 0 {
+        return;
+    }
     let mut space = io::buffer();
     let card = shell::named_file(&mut space);
     let n = card.length;

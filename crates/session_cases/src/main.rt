@@ -6,15 +6,17 @@
 // the tick length is 100, and BTS has 70 km/h.
 use card::Reading;
 use leaf::Refusal;
-use leaf::choose16;
+use leaf::choose32;
 use session::Opened;
 use session::Outcome;
 use session::Sample;
 use session::Session;
-use shell::next;
-use shell::number;
 use shell::say;
+use shell::say_first;
 use step::Answer;
+use text::put;
+use text::put_ended;
+use text::put_refusal;
 
 // Card K: length, version, vmax, tick length and BTS speed; eight rows of initial, final, delay and drop; functions, X, Y.
 fn card_k() -> [u8; 44] {
@@ -29,17 +31,24 @@ fn card_k() -> [u8; 44] {
 // ---- what is written
 
 fn refusal(why: Refusal) {
-    shell::refusal(why);
-    say(b"\n");
+    let mut line = io::buffer();
+    let at = put_refusal(&mut line, 0, why);
+    let n = put(&mut line, at, b'\n');
+    say_first(&line, n);
+}
+
+fn put_answer(line: &mut [u8], a: Answer) -> usize {
+    let at = put_ended(line, 0, a.speed, b' ');
+    let at = put_ended(line, at, a.lamps as u32, b' ');
+    let at = put_ended(line, at, a.cause as u32, b' ');
+    let at = put_ended(line, at, a.icon as u32, b' ');
+    put_ended(line, at, choose32(a.limit, 1, 0), b'\n')
 }
 
 fn answer(a: Answer) {
-    number(a.speed as u64);
-    next(a.lamps);
-    next(a.cause as u16);
-    next(a.icon as u16);
-    next(choose16(a.limit, 1, 0));
-    say(b"\n");
+    let mut line = io::buffer();
+    let n = put_answer(&mut line, a);
+    say_first(&line, n);
 }
 
 fn outcome(o: Outcome) {
@@ -165,7 +174,9 @@ fn zone(session: Session) {
 fn read_under_1(card: [u8; 44]) {
     let reading = card::read(&card, 1);
     match reading {
-        Reading::Read(_) => say(b"read\n"),
+        Reading::Read(_) => {
+            say(b"read\n");
+        }
         Reading::Refused(why) => refusal(why),
     }
 }

@@ -1,20 +1,13 @@
-// What the programs of the bench and the test programs share: words, numbers, refusals and a card's settings on standard
-// output, the file that a program's argument names, lines of standard input, hexadecimal digits, the bit pattern of a float.
+// What the programs share: writing what stands in a buffer, the file that a program's argument names, lines of standard
+// input.
 //
-// No public function has a `requires`. No contract can say what is read or written, so the functions that only write have
-// none; a count of bytes read lies within the buffer that was lent for them.
+// No public function has a `requires`. What is read and whether it is written is the system's, and no contract can say it;
+// a count of bytes read lies within the buffer that was lent for them. What is said of the arguments, of a file that cannot
+// be read and of output that cannot be written goes to standard error.
 ghost use mathlib.Core.Path.{_≡_};
 ghost use Prim.Native.Nat.{_≤_};
 ghost use lib.ListN.{length};
-ghost use lib.Ieee.{binary32, toBits};
 ghost use Rattle.io.specs.Counts.{Counts};
-ghost use Rattle.shell.specs.Digits.{digitOf};
-use card::Reading;
-use card::Row;
-use card::Settings;
-use leaf::Refusal;
-use leaf::choose8;
-use leaf::in_range;
 
 // An argument of any length fits: the system hands a program no longer one.
 const NAME_MOST: usize = 131072;
@@ -28,108 +21,25 @@ const RETURN: u8 = 13;
 
 // ---- writing
 
-pub fn say(words: &[u8]) {
-    io::write_all(1, words);
-}
-
-pub fn number(n: u64) {
-    io::print_decimal(1, n);
-}
-
-// A number behind others on its line: a blank, and the number.
-pub fn next(n: u16) {
-    io::write_all(1, b" ");
-    io::print_decimal(1, n as u64);
-}
-
-// A number of tenths, with its one decimal.
-pub fn tenths(n: u16) {
-    io::print_decimal(1, (n / 10) as u64);
-    io::write_all(1, b".");
-    io::print_decimal(1, (n % 10) as u64);
-}
-
-// A number of hundredths, with both decimals.
-pub fn hundredths(n: u16) {
-    io::print_decimal(1, (n / 100) as u64);
-    io::write_all(1, b".");
-    io::print_decimal(1, (n / 10 % 10) as u64);
-    io::print_decimal(1, (n % 10) as u64);
-}
-
-// The eight hexadecimal digits of a bit pattern.
-pub fn pattern(bits: u32) {
-    io::print_hex(1, bits as u64, 8);
-}
-
-// Each byte as two hexadecimal digits.
-pub fn hex(bytes: &[u8]) {
-    let mut i = 0;
-    while i < bytes.len() {
-        io::print_hex(1, wide(bytes[i]), 2);
-        i += 1;
+// Writes a text to standard output, and answers whether all of it was written.
+pub fn say(text: &[u8]) -> bool {
+    let written = io::write_all(libc::STDOUT_FILENO, text);
+    if !written {
+        warn(b"cannot write\n");
     }
+    written
 }
 
-fn wide(x: u8) -> u64 {
-    x as u64
-}
-
-// `refused N`, or `refused N at PLACE`.
-pub fn refusal(why: Refusal) {
-    io::write_all(1, b"refused ");
-    match why {
-        Refusal::Number(n) => {
-            io::print_decimal(1, n as u64);
-        }
-        Refusal::At(n, place) => {
-            io::print_decimal(1, n as u64);
-            io::write_all(1, b" at ");
-            io::print_decimal(1, place as u64);
-        }
+// The same of a buffer's first n bytes, or of all where it has fewer.
+pub fn say_first(buffer: &[u8], n: usize) -> bool {
+    if n < buffer.len() {
+        return say(&buffer[..n]);
     }
+    say(buffer)
 }
 
-fn row(r: Row) {
-    next(r.initial as u16);
-    next(r.last as u16);
-    next(r.delay as u16);
-    next(r.drop as u16);
-}
-
-// A card's settings as numbers, in the card's order.
-fn settings(s: Settings) {
-    number(s.vmax as u64);
-    next(s.tick);
-    next(s.bts as u16);
-    row(s.conditional_clear);
-    row(s.announcement);
-    row(s.preannouncement);
-    row(s.caution);
-    row(s.before_stop);
-    row(s.crossing);
-    row(s.limit);
-    row(s.start);
-    next(s.functions as u16);
-    next(s.x);
-    next(s.y);
-}
-
-// What a card's reader answers: the settings, or the refusal.
-pub fn reading(answer: Reading) {
-    match answer {
-        Reading::Read(s) => settings(s),
-        Reading::Refused(why) => refusal(why),
-    }
-}
-
-// ---- the bit pattern of a float
-
-// For a NaN, which has many, 7fc00000.
-pub fn bits_of(x: f32) -> u32
-    ensures { λ r. ⌜ r ≡ toBits binary32 x ⌝ }
-{
-    if x == x { f32::to_bits(x) } else { 0x7fc0_0000 }
+fn warn(text: &[u8]) {
+    io::write_all(libc::STDERR_FILENO, text);
 }
 
 // ---- the file that the argument names
@@ -144,7 +54,7 @@ pub struct File {
 pub fn has_argument(usage: &[u8]) -> bool {
     let one = os::arg_count() == 2;
     if !one {
-        io::write_all(1, usage);
+        warn(usage);
     }
     one
 }
@@ -185,9 +95,9 @@ pub fn named_file(buf: &mut [u8]) -> File
     let fd = os::open_read(&name[..n]);
     let file = opened_file(fd, buf);
     if !file.is_read {
-        io::write_all(1, b"cannot read ");
-        io::write_all(1, &name[..n]);
-        io::write_all(1, b"\n");
+        warn(b"cannot read ");
+        warn(&name[..n]);
+        warn(b"\n");
     }
     file
 }
@@ -292,16 +202,6 @@ fn before_return(line: &[u8], n: usize) -> usize
     } else {
         n
     }
-}
-
-// The value of a hexadecimal digit in either case, 16 for any other byte.
-pub fn digit(b: u8) -> u8
-    ensures { λ r. ⌜ r ≡ digitOf b ⌝ }
-{
-    let place = b as u16;
-    let letter = in_range(0x41, 0x46, place) | in_range(0x61, 0x66, place);
-    let other = choose8(letter, b % 16 + 9, 16);
-    choose8(in_range(0x30, 0x39, place), b % 16, other)
 }
 
 // The next byte of standard input, 256 at its end.

@@ -104,9 +104,9 @@ secondMet increased x y r = isPressed (r .phase) && (leb (pick increased (x / 2)
 
 -- the reminders' step of a sample
 unfoldable pub remindedOf : Main → Bool → ℕ → ℕ → Reminder → Reminder
-remindedOf main function2 x y r =
+remindedOf main reminds x y r =
     pick (reminderMissed r) (freshAs Off)
-    (pick (firstMet main r && function2) (freshAs First)
+    (pick (firstMet main r && reminds) (freshAs First)
     (pick (secondMet (main .increased) x y r) (freshAs Second) r))
 
 -- a press answers: after the first comes the wait for the second, after the second nothing

@@ -216,11 +216,11 @@ impl Reminder {
     }
 
     // The reminder after its step of a sample: missed, lit, or as it was.
-    pub fn reminded(self, main: Main, function_2: bool, x: u16, y: u16) -> Reminder
-        ensures { λ r. ⌜ r ≡ remindedOf main function_2 x y self ⌝ }
+    pub fn reminded(self, main: Main, reminds: bool, x: u16, y: u16) -> Reminder
+        ensures { λ r. ⌜ r ≡ remindedOf main reminds x y self ⌝ }
     {
         let missed = self.missed();
-        let first = self.first_met(main) & function_2;
+        let first = self.first_met(main) & reminds;
         let second = self.second_met(main.increased, x, y);
         if missed {
             return Reminder::fresh(Phase::Off);

@@ -104,14 +104,14 @@ unfolding sideMissed
 side-missed-side true d = refl
 side-missed-side false d = refl
 
-clock-main : (m : ℕ) (function2 : Bool) (x y : ℕ) (d : Desk) → advanced m function2 x y d .desk .window ≡ oneOn m (d .window)
+clock-main : (m : ℕ) (reminds : Bool) (x y : ℕ) (d : Desk) → advanced m reminds x y d .desk .window ≡ oneOn m (d .window)
 unfolding advanced reminded deskOlder oneOn
-clock-main m function2 x y d = side-missed-window _ _ ∙ main-missed-window _ _
+clock-main m reminds x y d = side-missed-window _ _ ∙ main-missed-window _ _
 
-clock-side : (m : ℕ) (function2 : Bool) (x y : ℕ) (d : Desk) → advanced m function2 x y d .desk .side ≡ oneOn m (d .side)
+clock-side : (m : ℕ) (reminds : Bool) (x y : ℕ) (d : Desk) → advanced m reminds x y d .desk .side ≡ oneOn m (d .side)
 unfolding advanced reminded deskOlder oneOn
-clock-side m function2 x y d =
-    side-missed-side _ _ ∙ rw (main-missed-side (missedOf (windowOlder m (d .window))) (reminded function2 x y (deskOlder m d)))
+clock-side m reminds x y d =
+    side-missed-side _ _ ∙ rw (main-missed-side (missedOf (windowOlder m (d .window))) (reminded reminds x y (deskOlder m d)))
 
 -- ---- a window's life
 

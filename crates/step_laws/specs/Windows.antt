@@ -37,8 +37,8 @@ isZone Limit = false
 
 pub record WindowLaws : Type 0 where
   -- that is what the step of ages and misses does to the desk's windows
-  pub clock-main : (m : ℕ) (function2 : Bool) (x y : ℕ) (d : Desk) → advanced m function2 x y d .desk .window ≡ oneOn m (d .window)
-  pub clock-side : (m : ℕ) (function2 : Bool) (x y : ℕ) (d : Desk) → advanced m function2 x y d .desk .side ≡ oneOn m (d .side)
+  pub clock-main : (m : ℕ) (reminds : Bool) (x y : ℕ) (d : Desk) → advanced m reminds x y d .desk .window ≡ oneOn m (d .window)
+  pub clock-side : (m : ℕ) (reminds : Bool) (x y : ℕ) (d : Desk) → advanced m reminds x y d .desk .side ≡ oneOn m (d .side)
   -- "age 30 is a miss": of all the samples to come, that one is in which the time is over, and no other
   pub missed-once :
       (way : ℕ → ℕ) (w : Window) (k : ℕ) → isOpen (w .waits) ≡ true → 1 ≤ w .left

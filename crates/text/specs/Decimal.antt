@@ -36,6 +36,17 @@ decimal n = upperOf n ++ lowerOf n
 abbrev pub ended : ℕ → ℕ → List ℕ
 ended n end = decimal n ++ end ∷ []
 
+-- what stands before a number's decimals
+abbrev pub point : ℕ
+point = 0x2E
+
+-- a number of tenths with its one decimal, and of hundredths with both
+unfoldable pub tenths : ℕ → List ℕ
+tenths n = ended (n / 10) point ++ decimal (n % 10)
+
+unfoldable pub hundredths : ℕ → List ℕ
+hundredths n = ended (n / 100) point ++ decimal (n / 10 % 10) ++ decimal (n % 10)
+
 -- numbers separated by a blank, the last of them ended by a newline
 abbrev pub line : ℕ → List ℕ → List ℕ
 line n [] = ended n newline

@@ -2,12 +2,12 @@
 use Prim.Native.Nat.{ℕ, suc, _+_, min, _≤_, _<_}
 use native.Mathlib.Omega.{arith}
 use native.Mathlib.Numerals.{add-one}
-use mathlib.Core.Path.{_≡_, refl, ap, _∙_}
+use mathlib.Core.Path.{_≡_, refl, sym, ap, _∙_}
 use mathlib.Core.List.{List, [], _∷_, _++_, append-nil}
 use mathlib.Core.Bool.{Bool, true, false}
 use lib.Dec.{ltb}
-use lib.ListN.{length, set, take, drop, length-append}
-use lib.Seq.{append-snoc, set-append-seam}
+use lib.ListN.{length, set, take, drop, length-append, length-take, length-drop}
+use lib.Seq.{append-snoc, set-append-seam, length-take-le}
 use borrow.Author.Tests.{lt-ltb, le-ltb}
 use Rattle.leaf.specs.Choosing.{pick}
 use Rattle.leaf.specs.Bytes.{over}
@@ -80,3 +80,26 @@ pub typed-over : (t l : List ℕ) → typed t (l, 0) ≡ (over (length t) t l, m
 typed-over t l =
     let e : 0 + min (length t) (length l) ≡ min (length t) (length l) = omega arith in
     typed-behind t [] l ∙ rw e
+
+-- what a lent buffer holds of a text that is typed from its start on: as much as there is room for, the rest as it was. `count` bytes of
+-- it are the text's; that they are within the buffer is said twice, as a caller needs it who takes them as a part
+pub record Held (text before after : List ℕ) (count : ℕ) : Type 0 where
+  pub counted : count ≡ min (length text) (length before)
+  pub bytes : after ≡ over (length text) text before
+  pub inside : count ≤ length after
+  pub part : count ≡ length (take count after)
+
+inside-of : (t l : List ℕ) (s : Sheet) → s ≡ typed t (l, 0) → s .1 ≤ length (s .0)
+unfolding over
+inside-of t l s e = rw (e, typed-over) (simp (length-append, length-take, length-drop) (omega arith))
+
+pub held : (t l : List ℕ) (s : Sheet) → s ≡ typed t (l, 0) → Held t l (s .0) (s .1)
+held t l s e =
+    let o = e ∙ typed-over t l in
+    let i = inside-of t l s e in
+    record {
+      counted = ap (λ (x : Sheet). x .1) o;
+      bytes = ap (λ (x : Sheet). x .0) o;
+      inside = i;
+      part = sym (length-take-le (s .1) (s .0) i);
+    }

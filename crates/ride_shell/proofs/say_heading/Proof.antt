@@ -11,4 +11,4 @@ pub say-heading-spec : {M : Type 1} → statement M
 say-heading-spec =
     tie.close
     (tie.spec (λ c. search needs) (λ c κs. search needs) (λ c. search needs) slice-aggregate-say (λ c κs. search needs)
-    (λ c. search needs))
+    (λ c. search needs) (λ c. search needs))

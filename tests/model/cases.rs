@@ -1,0 +1,98 @@
+//! Cases of cards and tones, a line each, in the notation of crates/cases: what each is answered with.
+
+use crate::card::{self, big_endian};
+use crate::cards::unhex;
+use crate::tone::{self, Tone};
+use std::io::{self, Write};
+
+/// Each line again with its answer; a comment as it stands, and none for an area.
+pub fn answer(text: &str, out: &mut impl Write) -> io::Result<()> {
+    let mut area = Vec::new();
+    for line in text.lines() {
+        let (word, digits) = line.split_once(' ').unwrap_or((line, ""));
+        match word {
+            "area" => area = unhex(digits),
+            "read" => writeln!(out, "{line}: {}", read(&area, &unhex(digits)))?,
+            "write" => writeln!(out, "{line}: {}", write(&area, &unhex(digits)))?,
+            "tone" => writeln!(out, "{line}: {}", classify(&area, &unhex(digits)))?,
+            _ => writeln!(out, "{line}")?,
+        }
+    }
+    Ok(())
+}
+
+/// As many bytes of an area as a case asks for, with another byte where it says which.
+fn changed(area: &[u8], change: &[u8]) -> Vec<u8> {
+    let mut part = area.to_vec();
+    if let [_, place, value] = change {
+        part[*place as usize] = *value;
+    }
+    if let Some(length) = change.first() {
+        part.truncate(*length as usize);
+    }
+    part
+}
+
+/// A case: highest, and the change.
+fn read(area: &[u8], case: &[u8]) -> String {
+    match card::read(case[0], &changed(area, &case[1..])) {
+        Err(refusal) => refusal.to_string(),
+        Ok(s) => {
+            let mut numbers = vec![s.vmax.into(), s.tick, s.bts.into()];
+            for row in s.rows {
+                numbers.extend([row.initial, row.r#final, row.delay, row.drop].map(u16::from));
+            }
+            numbers.extend([s.functions.into(), s.x, s.y]);
+            numbers.iter().map(u16::to_string).collect::<Vec<_>>().join(" ")
+        }
+    }
+}
+
+/// The settings in bytes 3 to 43 of a version 2 card, in range or not; what the area does not have is 0.
+fn settings_in(area: &[u8]) -> card::Settings {
+    let mut bytes = area.to_vec();
+    bytes.resize(44, 0);
+    let mut s = card::Settings {
+        vmax: bytes[3],
+        tick: big_endian(&bytes[4..6]) as u16,
+        bts: bytes[6],
+        functions: bytes[39],
+        x: big_endian(&bytes[40..42]) as u16,
+        y: big_endian(&bytes[42..44]) as u16,
+        ..card::Settings::default()
+    };
+    for (row, four) in s.rows.iter_mut().zip(bytes[7..39].chunks(4)) {
+        *row = card::Row { initial: four[0], r#final: four[1], delay: four[2], drop: four[3] };
+    }
+    s
+}
+
+/// A case: version, the lent buffer's length, the byte it is filled with.
+fn write(area: &[u8], case: &[u8]) -> String {
+    let mut buffer = vec![case[2]; case[1] as usize];
+    let answer = match card::write(case[0], &settings_in(area), &mut buffer) {
+        Ok(()) => "written".to_string(),
+        Err(refusal) => refusal.to_string(),
+    };
+    let hex = hex(&buffer);
+    format!("{answer} {}", if hex.is_empty() { "-" } else { &hex })
+}
+
+/// A case: the tone's bits, and the change.
+fn classify(area: &[u8], case: &[u8]) -> String {
+    match tone::classify(&changed(area, &case[4..]), f32::from_bits(big_endian(&case[..4]))) {
+        Err(refusal) => refusal.to_string(),
+        Ok(tone) => {
+            let code = tone::beacon_code(&tone);
+            match tone {
+                Tone::Nothing => format!("nothing {code}"),
+                Tone::Permanent(offset) => format!("permanent {:08x} {code}", offset.to_bits()),
+                Tone::Beacon(k, offset) => format!("beacon {k} {:08x} {code}", offset.to_bits()),
+            }
+        }
+    }
+}
+
+pub fn hex(bytes: &[u8]) -> String {
+    bytes.iter().map(|byte| format!("{byte:02x}")).collect()
+}
