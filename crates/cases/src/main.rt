@@ -214,7 +214,7 @@ fn settings_in(card: &[u8]) -> Settings {
         vmax: byte_at(card, 3),
         tick: word_at(card, 4),
         bts: byte_at(card, 6),
-        clear: row_at(card, 7),
+        conditional_clear: row_at(card, 7),
         announcement: row_at(card, 11),
         preannouncement: row_at(card, 15),
         caution: row_at(card, 19),
