@@ -1,5 +1,5 @@
-// What `show_card` prints: the settings of the card in an area of bytes, by name and with their units, or why the card is
-// refused and which setting stands at the refusal's place. It is one text, typed into a lent buffer.
+// What `show_card` prints: the settings of the card in an area of bytes, by name and with their units, and what lies behind
+// the record; or why the card is refused: what was found, and what should be there. It is one text, typed into a lent buffer.
 //
 // Each function types from the place `at` on, as those of `text` do. There is no `requires`.
 use card::Reading;
@@ -9,8 +9,13 @@ use leaf::Refusal;
 use leaf::byte_at;
 use leaf::choose32;
 use leaf::has_bit;
+use leaf::in_range;
 use leaf::less;
 use leaf::word_at;
+use text::MOST;
+use text::counted;
+use text::put;
+use text::put_hex;
 use text::put_hundredths;
 use text::put_labelled;
 use text::put_number;
@@ -19,28 +24,20 @@ use text::put_tenths;
 use text::put_text;
 use text::put_word;
 ghost use mathlib.Core.Path.{_≡_};
-ghost use lib.ListN.{length};
-ghost use Rattle.leaf.specs.Answers.{given, refusalOf};
+ghost use Prim.Native.Nat.{_≤_};
+ghost use lib.ListN.{length, take, drop};
+ghost use Rattle.leaf.specs.Answers.{given, refused, refusalOf};
+ghost use Rattle.card.specs.Card.{lengthOf};
 ghost use Rattle.card.specs.Reading.{paperOf};
 ghost use Rattle.text.specs.Typing.{typed, Held};
-ghost use Rattle.shown_card.specs.Shown.{counted as Shown·counted, rowName, rowSetting, settingName, fallText, rowText, rowsText, functionText, functionLine, reminderText, reminderLine, functionsText, tickText, headText, settingsText, behindText, sizeText, reasonText, refusedText, faultText, cardText, shownCard};
+ghost use Rattle.shown_card.specs.Shown.{rowName, rowSetting, settingName, fallText, rowText, rowsText, functionText, functionLine, reminderText, reminderLine, functionsText, tickText, headText, settingsText};
+ghost use Rattle.shown_card.specs.Shown.{hexBytes, hexLine, hexLines, manyText, moreText, behindText, due as Shown·due, foundText, reasonText, refusedText, isWritten, isText, hintText};
+ghost use Rattle.shown_card.specs.Shown.{lowEnd, rowEnd, tailEnd, highEnd, valueAt, isFinal, rangeText, faultText, cardText, shownCard};
 
 // The highest version that the program knows.
 const HIGHEST: u8 = 2;
 
-// As many bytes of a file as are looked at.
-const MOST: u32 = 65536;
-
-// How many bytes of the area are counted.
-fn counted(area: &[u8]) -> u32
-    ensures { λ r. ⌜ r ≡ Shown·counted (now (area .entry)) ⌝ }
-{
-    if area.len() < 65536 {
-        area.len() as u32
-    } else {
-        MOST
-    }
-}
+const BLANK: u8 = b' ';
 
 // ---- names
 
@@ -71,7 +68,7 @@ fn put_setting_name(out: &mut [u8], at: usize, place: u32) -> usize
         return put_word(
             out,
             at,
-            b"length|length|version|vmax|tick length|tick length|BTS speed",
+            b"length|length|version|vmax|tick length, in tenths of a millimetre||BTS speed",
             place,
         );
     }
@@ -81,7 +78,7 @@ fn put_setting_name(out: &mut [u8], at: usize, place: u32) -> usize
     put_word(
         out,
         at,
-        b"functions|reminder X|reminder X|reminder Y|reminder Y",
+        b"functions|reminder X||reminder Y",
         less(place, 39),
     )
 }
@@ -195,27 +192,132 @@ fn put_settings(out: &mut [u8], at: usize, version: u8, s: Settings) -> usize
     put_functions(out, at, s.functions, s.x, s.y)
 }
 
-// How many bytes lie behind the record: at least so many, where the file goes on behind what is looked at.
-fn put_behind(out: &mut [u8], at: usize, bytes: u32, whole: u32) -> usize
-    ensures { λ r. ⌜ (now (out .exit), r) ≡ typed (behindText bytes whole) (now (out .entry), at) ⌝ }
+// ---- what lies behind the record
+
+// Bytes of a listing, a blank before each.
+fn put_bytes(out: &mut [u8], at: usize, bytes: &[u8]) -> usize
+    ensures { λ r. ⌜ (now (out .exit), r) ≡ typed (hexBytes (now (bytes .entry))) (now (out .entry), at) ⌝ }
 {
-    if bytes <= whole {
+    let mut place = at;
+    let mut i = 0;
+    while i < bytes.len() {
+        let behind = put(out, place, BLANK);
+        place = put_hex(out, behind, bytes[i]);
+        i += 1;
+    }
+    place
+}
+
+// Sixteen bytes from a place on, as many as there are.
+fn sixteen(area: &[u8], from: usize) -> &[u8]
+    requires { ⌜ from ≤ length (now area) ⌝ }
+    ensures { λ r. ⌜ now r ≡ take 16 (drop from (now (area .entry))) ⌝ }
+{
+    let left = area.len() - from;
+    if left < 16 {
+        return &area[from..];
+    }
+    let end = from + 16;
+    &area[from..end]
+}
+
+fn put_line(out: &mut [u8], at: usize, area: &[u8], from: u32) -> usize
+    ensures { λ r. ⌜ (now (out .exit), r) ≡ typed (hexLine (now (area .entry)) from) (now (out .entry), at) ⌝ }
+{
+    let i = from as usize;
+    if i < area.len() {
+        let at = put_number(out, at, from);
+        let at = put_text(out, at, b":");
+        let at = put_bytes(out, at, sixteen(area, i));
+        return put_text(out, at, b"\n");
+    }
+    at
+}
+
+// The first 64 bytes from a place on.
+fn put_lines(out: &mut [u8], at: usize, area: &[u8], from: u16) -> usize
+    ensures { λ r. ⌜ (now (out .exit), r) ≡ typed (hexLines (now (area .entry)) from) (now (out .entry), at) ⌝ }
+{
+    let first = from as u32;
+    let at = put_line(out, at, area, first);
+    let at = put_line(out, at, area, first + 16);
+    let at = put_line(out, at, area, first + 32);
+    put_line(out, at, area, first + 48)
+}
+
+// How many bytes there are beyond a few: at least so many, where the file goes on behind what is looked at.
+fn put_many(out: &mut [u8], at: usize, bytes: u32, few: u32) -> usize
+    ensures { λ r. ⌜ (now (out .exit), r) ≡ typed (manyText bytes few) (now (out .entry), at) ⌝ }
+{
+    let at = put_number(out, at, less(bytes, few));
+    put_word(out, at, b"| or more", choose32(bytes < MOST as u32, 0, 1))
+}
+
+fn put_more(out: &mut [u8], at: usize, bytes: u32, few: u32) -> usize
+    ensures { λ r. ⌜ (now (out .exit), r) ≡ typed (moreText bytes few) (now (out .entry), at) ⌝ }
+{
+    if bytes <= few {
         return at;
     }
-    let at = put_number(out, at, less(bytes, whole));
-    let at = put_word(out, at, b"| or more", choose32(bytes < MOST, 0, 1));
-    put_text(out, at, b" bytes behind the record are not read\n")
+    let at = put_text(out, at, b"and ");
+    let at = put_many(out, at, bytes, few);
+    put_text(out, at, b" behind them\n")
+}
+
+fn put_behind(out: &mut [u8], at: usize, area: &[u8], whole: u16) -> usize
+    ensures { λ r. ⌜ (now (out .exit), r) ≡ typed (behindText (now (area .entry)) whole) (now (out .entry), at) ⌝ }
+{
+    let bytes = counted(area);
+    let record = whole as u32;
+    if bytes <= record {
+        return at;
+    }
+    let at = put_many(out, at, bytes, record);
+    let at = put_text(
+        out,
+        at,
+        b" bytes behind the record are not read: the desk never looks at them\n",
+    );
+    let at = put_lines(out, at, area, whole);
+    put_more(out, at, bytes, record + 64)
 }
 
 // ---- the refusals
 
-// How long the area is that is too short for its record.
-fn put_size(out: &mut [u8], at: usize, number: u8, bytes: u32) -> usize
-    ensures { λ r. ⌜ (now (out .exit), r) ≡ typed (sizeText number bytes) (now (out .entry), at) ⌝ }
+// The length of a version's record.
+fn length_of(version: u8) -> u32
+    ensures { λ r. ⌜ r ≡ lengthOf version ⌝ }
+{
+    choose32(
+        version == 1,
+        Settings::LENGTH_1 as u32,
+        Settings::LENGTH_2 as u32,
+    )
+}
+
+// How many bytes the area should have.
+fn due(area: &[u8]) -> u32
+    ensures { λ r. ⌜ r ≡ Shown·due (now (area .entry)) ⌝ }
+{
+    let length = length_of(byte_at(area, 2));
+    choose32(area.len() < 3, 3, length)
+}
+
+// What was found and what should be there.
+fn put_found(out: &mut [u8], at: usize, area: &[u8], number: u8) -> usize
+    ensures { λ r. ⌜ (now (out .exit), r) ≡ typed (foundText (now (area .entry)) number) (now (out .entry), at) ⌝ }
 {
     if number == 1 {
-        let at = put_labelled(out, at, b" (", bytes);
-        return put_text(out, at, b" bytes)");
+        let at = put_labelled(out, at, b": has ", counted(area));
+        return put_labelled(out, at, b" bytes, must have ", due(area));
+    }
+    if number == 3 {
+        let at = put_labelled(out, at, b": is ", byte_at(area, 2) as u32);
+        return put_labelled(out, at, b", the highest is ", HIGHEST as u32);
+    }
+    if number == 4 {
+        let at = put_labelled(out, at, b": is ", word_at(area, 0) as u32);
+        return put_labelled(out, at, b", must be ", length_of(byte_at(area, 2)));
     }
     at
 }
@@ -232,34 +334,146 @@ fn put_reason(out: &mut [u8], at: usize, number: u8) -> usize
 }
 
 // A refusal by its number, in document 01's words.
-fn put_refused(out: &mut [u8], at: usize, number: u8, bytes: u32) -> usize
-    ensures { λ r. ⌜ (now (out .exit), r) ≡ typed (refusedText number bytes) (now (out .entry), at) ⌝ }
+fn put_refused(out: &mut [u8], at: usize, area: &[u8], number: u8) -> usize
+    ensures { λ r. ⌜ (now (out .exit), r) ≡ typed (refusedText (now (area .entry)) number) (now (out .entry), at) ⌝ }
 {
     let at = put_refusal(out, at, Refusal::Number(number));
     let at = put_text(out, at, b": ");
     let at = put_reason(out, at, number);
-    let at = put_size(out, at, number, bytes);
+    let at = put_found(out, at, area, number);
     put_text(out, at, b"\n")
 }
 
-// A refusal with its place, and the setting that stands there.
-fn put_fault(out: &mut [u8], at: usize, number: u8, place: u8) -> usize
-    ensures { λ r. ⌜ (now (out .exit), r) ≡ typed (faultText number place) (now (out .entry), at) ⌝ }
+fn is_written(b: u8) -> bool
+    ensures { λ r. ⌜ r ≡ isWritten b ⌝ }
+{
+    in_range(0x20, 0x7E, b as u16) | in_range(0x09, 0x0D, b as u16)
+}
+
+// Is every byte a character of a text.
+fn is_text(area: &[u8]) -> bool
+    ensures { λ r. ⌜ r ≡ isText (now (area .entry)) ⌝ }
+{
+    let mut i = 0;
+    while i < area.len() {
+        let other = !is_written(area[i]);
+        if other {
+            return false;
+        }
+        i += 1;
+    }
+    true
+}
+
+// A file of text is no card.
+fn put_hint(out: &mut [u8], at: usize, area: &[u8]) -> usize
+    ensures { λ r. ⌜ (now (out .exit), r) ≡ typed (hintText (now (area .entry))) (now (out .entry), at) ⌝ }
+{
+    let text = is_text(area) & !(area.len() == 0);
+    if text {
+        return put_text(
+            out,
+            at,
+            b"this file is text, not bytes; bench/unhex makes bytes of a hex dump\n",
+        );
+    }
+    at
+}
+
+// ---- a setting out of range
+
+// The lower end of the range of the setting at a place.
+fn low_end(place: u32) -> u32
+    ensures { λ r. ⌜ r ≡ lowEnd place ⌝ }
+{
+    let reminder = choose32(place == 40, 2, 1);
+    let functions = choose32(place == 39, 0, reminder);
+    let tick = choose32(place == 4, 10, functions);
+    choose32(place == 3, 80, tick)
+}
+
+fn row_end(area: &[u8], place: u32) -> u32
+    ensures { λ r. ⌜ r ≡ rowEnd (now (area .entry)) place ⌝ }
+{
+    let field = less(place, 7) % 4;
+    let initial = byte_at(area, less(place, 1) as usize);
+    let other = choose32(field == 1, initial as u32, 255);
+    choose32(field == 0, 200, other)
+}
+
+fn tail_end(place: u32) -> u32
+    ensures { λ r. ⌜ r ≡ tailEnd place ⌝ }
+{
+    let reminder = choose32(place == 40, 6000, 5000);
+    choose32(place == 39, 15, reminder)
+}
+
+// Its upper end.
+fn high_end(area: &[u8], place: u32) -> u32
+    ensures { λ r. ⌜ r ≡ highEnd (now (area .entry)) place ⌝ }
+{
+    if place < 7 {
+        return choose32(place == 4, 1000, 200);
+    }
+    if place < 39 {
+        return row_end(area, place);
+    }
+    tail_end(place)
+}
+
+// What stands there.
+fn value_at(area: &[u8], place: u32) -> u32
+    ensures { λ r. ⌜ r ≡ valueAt (now (area .entry)) place ⌝ }
+{
+    let two = (place == 4) | (place == 40) | (place == 42);
+    choose32(
+        two,
+        word_at(area, place) as u32,
+        byte_at(area, place as usize) as u32,
+    )
+}
+
+fn is_final(place: u32) -> bool
+    ensures { λ r. ⌜ r ≡ isFinal place ⌝ }
+{
+    (7 <= place) & (place <= 38) & (less(place, 7) % 4 == 1)
+}
+
+fn put_range(out: &mut [u8], at: usize, area: &[u8], place: u32) -> usize
+    ensures { λ r. ⌜ (now (out .exit), r) ≡ typed (rangeText (now (area .entry)) place) (now (out .entry), at) ⌝ }
+{
+    let at = put_labelled(out, at, b": is ", value_at(area, place));
+    let at = put_labelled(out, at, b", must be ", low_end(place));
+    let at = put_labelled(out, at, b"..", high_end(area, place));
+    put_word(out, at, b"| (its initial)", choose32(is_final(place), 1, 0))
+}
+
+// A refusal with its place: the setting that stands there, and its range.
+fn put_fault(out: &mut [u8], at: usize, area: &[u8], number: u8, place: u8) -> usize
+    ensures { λ r. ⌜ (now (out .exit), r) ≡ typed (faultText (now (area .entry)) number place) (now (out .entry), at) ⌝ }
 {
     let at = put_refusal(out, at, Refusal::At(number, place));
     let at = put_text(out, at, b": ");
     let at = put_setting_name(out, at, place as u32);
+    let at = put_range(out, at, area, place as u32);
     put_text(out, at, b"\n")
 }
 
 // ---- the whole text
 
+fn put_number_refused(area: &[u8], number: u8, out: &mut [u8]) -> usize
+    ensures { λ r. ⌜ (now (out .exit), r) ≡ typed (cardText (now (area .entry)) (refused number)) (now (out .entry), 0) ⌝ }
+{
+    let at = put_refused(out, 0, area, number);
+    put_hint(out, at, area)
+}
+
 fn put_why(area: &[u8], why: Refusal, out: &mut [u8]) -> usize
     ensures { λ r. ⌜ (now (out .exit), r) ≡ typed (cardText (now (area .entry)) (refusalOf why)) (now (out .entry), 0) ⌝ }
 {
     match why {
-        Refusal::Number(number) => put_refused(out, 0, number, counted(area)),
-        Refusal::At(number, place) => put_fault(out, 0, number, place),
+        Refusal::Number(number) => put_number_refused(area, number, out),
+        Refusal::At(number, place) => put_fault(out, 0, area, number, place),
     }
 }
 
@@ -267,7 +481,7 @@ fn put_read(area: &[u8], s: Settings, out: &mut [u8]) -> usize
     ensures { λ r. ⌜ (now (out .exit), r) ≡ typed (cardText (now (area .entry)) (given s)) (now (out .entry), 0) ⌝ }
 {
     let at = put_settings(out, 0, byte_at(area, 2), s);
-    put_behind(out, at, counted(area), word_at(area, 0) as u32)
+    put_behind(out, at, area, word_at(area, 0))
 }
 
 fn put_card(area: &[u8], out: &mut [u8]) -> usize

@@ -1,7 +1,8 @@
 -- Numbers as text, in ASCII: decimal digits, and a line of numbers.
-use Prim.Native.Nat.{ℕ, _+_, _/_, _%_}
+use Prim.Native.Nat.{ℕ, _+_, _/_, _%_, min}
 use mathlib.Core.List.{List, [], _∷_, _++_}
 use lib.Dec.{ltb}
+use lib.ListN.{length}
 use Rattle.leaf.specs.Choosing.{pick}
 
 abbrev pub newline : ℕ
@@ -51,3 +52,10 @@ hundredths n = ended (n / 100) point ++ decimal (n / 10 % 10) ++ decimal (n % 10
 abbrev pub line : ℕ → List ℕ → List ℕ
 line n [] = ended n newline
 line n (m ∷ rest) = ended n blank ++ line m rest
+
+-- as many bytes of a file as a program looks at, and how many of an area it counts
+abbrev pub MOST : ℕ
+MOST = 65536
+
+abbrev pub counted : List ℕ → ℕ
+counted area = min (length area) MOST

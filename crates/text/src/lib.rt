@@ -7,7 +7,7 @@ ghost use mathlib.Core.List.{[], _∷_};
 ghost use Prim.Native.Nat.{_+_, _%_, _≤_};
 ghost use lib.Ieee.{binary32, toBits};
 ghost use Rattle.leaf.specs.Choosing.{pick};
-ghost use Rattle.text.specs.Decimal.{digitOf, unitOf, upperOf, lowerOf, decimal, ended, tenths, hundredths};
+ghost use Rattle.text.specs.Decimal.{digitOf, unitOf, upperOf, lowerOf, decimal, ended, tenths, hundredths, counted as Decimal·counted};
 ghost use Rattle.text.specs.Hex.{glyph as Hex·glyph, hexOf, patternOf, hexValue};
 ghost use Rattle.text.specs.Typing.{typed};
 ghost use Rattle.text.specs.Words.{wordOf, labelled, refusalText};
@@ -21,6 +21,9 @@ use leaf::less;
 const BAR: u8 = b'|';
 
 const POINT: u8 = b'.';
+
+// As many bytes of a file as a program looks at.
+pub const MOST: usize = 65536;
 
 // ---- bytes and words
 
@@ -79,6 +82,17 @@ pub fn put_word(out: &mut [u8], at: usize, words: &[u8], k: u32) -> usize
 }
 
 // ---- decimal numbers
+
+// How many bytes an area has, 65,536 at most: as many of a file as a program looks at.
+pub fn counted(area: &[u8]) -> u32
+    ensures { λ r. ⌜ r ≡ Decimal·counted (now (area .entry)) ⌝ }
+{
+    if area.len() < MOST {
+        area.len() as u32
+    } else {
+        65536
+    }
+}
 
 fn digit(n: u32) -> u8
     requires { ⌜ n ≤ 9 ⌝ }

@@ -1,8 +1,32 @@
 use borrow.Author.Needs.{needs}
 use Rattle.shown_card.proofs.put_refused.Statement.{statement}
 use Rattle.shown_card.proofs.put_refused.Tie as tie
-use Rattle.shown_card.specs.Shown.{refusedText}
 use Rattle.text.specs.Typing.{then-typed}
+use Rattle.shown_card.specs.Shown.{refusedText}
+
+put-refusal-requires : tie.Need-put-refusal-requires
+put-refusal-requires c κs = search needs
+
+slice-aggregate-put-text : tie.Need-slice-aggregate-put-text
+slice-aggregate-put-text c = search needs
+
+put-text-requires : tie.Need-put-text-requires
+put-text-requires c κs = search needs
+
+put-reason-requires : tie.Need-put-reason-requires
+put-reason-requires c κs = search needs
+
+put-found-requires : tie.Need-put-found-requires
+put-found-requires c κs = search needs
+
+slice-aggregate-put-text-2 : tie.Need-slice-aggregate-put-text-2
+slice-aggregate-put-text-2 c = search needs
+
+put-text-requires-2 : tie.Need-put-text-requires-2
+put-text-requires-2 c κs = search needs
+
+same-length : tie.Need-same-length
+same-length c = search needs
 
 returns : tie.Need-returns
 unfolding refusedText
@@ -12,10 +36,18 @@ returns c =
     let three = four .before .before .before .before in
     let two = three .before .before .before .before in
     let one = two .before .before .before .before .before in
-    then-typed _ _ _ (then-typed _ _ _ (then-typed _ _ _ (then-typed _ _ _ (one .put-refusal .ensures) (two .put-text .ensures)) (three .put-reason .ensures)) (four .put-size .ensures)) (five .put-text2 .ensures)
+    then-typed _ _ _ (then-typed _ _ _ (then-typed _ _ _ (then-typed _ _ _ (one .put-refusal .ensures) (two .put-text .ensures)) (three .put-reason .ensures)) (four .put-found .ensures)) (five .put-text2 .ensures)
 
 pub put-refused-spec : {M : Type 1} → statement M
 put-refused-spec =
     tie.close
-    (tie.spec (λ c κs. search needs) (λ c. search needs) (λ c κs. search needs) (λ c κs. search needs) (λ c κs. search needs)
-    (λ c. search needs) (λ c κs. search needs) (λ c. search needs) returns)
+    (tie.spec
+    put-refusal-requires
+    slice-aggregate-put-text
+    put-text-requires
+    put-reason-requires
+    put-found-requires
+    slice-aggregate-put-text-2
+    put-text-requires-2
+    same-length
+    returns)

@@ -1,8 +1,8 @@
-use Prim.Native.Nat.{suc, _-_, _<_, _≤_}
+use Prim.Native.Nat.{_-_, _<_, _≤_, suc}
 use native.Mathlib.Omega.{arith}
 use native.Mathlib.Numerals.{add-one}
 use mathlib.Core.Path.{_≡_, refl}
-use lib.ListN.{length, drop}
+use lib.ListN.{drop, length}
 use lib.Seq.{drop-cons, drop-length}
 use borrow.Author.Needs.{needs}
 use Rattle.shown_tones.specs.Shown.{bitsFrom}
@@ -21,7 +21,7 @@ loop-again c =
     let l = c .before .before .before .loop in
     let line = c .before .before .before .before .before .args .line .now in
     let here : l .i < length line = c .before .before .loop-test .taken in
-    (omega arith, rw (add-one, c .hex-digit .ensures) (rw (drop-cons line (l .i) 0 here) at (l .inv .1)))
+    (omega arith, rw (add-one, c .next-bits .ensures) (rw (drop-cons line (l .i) 0 here) at (l .inv .1)))
 
 returns : tie.Need-returns Inv-loop μ-loop
 unfolding bitsFrom
@@ -34,5 +34,5 @@ returns c =
 pub bits-in-spec : {M : Type 1} → statement M
 bits-in-spec =
     tie.close
-    (tie.spec Inv-loop μ-loop (λ c. (omega arith, refl)) (λ c. search needs) (λ c. omega arith) (λ c κs. search needs)
-    (λ c. search needs) (λ c. search needs) (λ c. omega arith) (λ c. omega arith) loop-again returns)
+    (tie.spec Inv-loop μ-loop (λ c. (omega arith, refl)) (λ c. omega arith) (λ c κs. search needs) (λ c. omega arith)
+    (λ c. omega arith) loop-again returns)

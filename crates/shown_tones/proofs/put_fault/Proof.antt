@@ -4,6 +4,27 @@ use Rattle.shown_tones.proofs.put_fault.Tie as tie
 use Rattle.text.specs.Typing.{then-typed}
 use Rattle.shown_tones.specs.Shown.{faultText}
 
+put-refusal-requires : tie.Need-put-refusal-requires
+put-refusal-requires c κs = search needs
+
+slice-aggregate-put-text : tie.Need-slice-aggregate-put-text
+slice-aggregate-put-text c = search needs
+
+put-text-requires : tie.Need-put-text-requires
+put-text-requires c κs = search needs
+
+put-place-requires : tie.Need-put-place-requires
+put-place-requires c κs = search needs
+
+slice-aggregate-put-text-2 : tie.Need-slice-aggregate-put-text-2
+slice-aggregate-put-text-2 c = search needs
+
+put-text-requires-2 : tie.Need-put-text-requires-2
+put-text-requires-2 c κs = search needs
+
+same-length : tie.Need-same-length
+same-length c = search needs
+
 returns : tie.Need-returns
 unfolding faultText
 returns c =
@@ -16,5 +37,12 @@ returns c =
 pub put-fault-spec : {M : Type 1} → statement M
 put-fault-spec =
     tie.close
-    (tie.spec (λ c κs. search needs) (λ c. search needs) (λ c κs. search needs) (λ c κs. search needs) (λ c. search needs)
-    (λ c κs. search needs) (λ c. search needs) returns)
+    (tie.spec
+    put-refusal-requires
+    slice-aggregate-put-text
+    put-text-requires
+    put-place-requires
+    slice-aggregate-put-text-2
+    put-text-requires-2
+    same-length
+    returns)

@@ -3,9 +3,27 @@ use Rattle.shown_tones.proofs.put_why.Statement.{statement}
 use Rattle.shown_tones.proofs.put_why.Tie as tie
 use Rattle.shown_tones.specs.Shown.{sheetText}
 
+enum-known-why : tie.Need-enum-known-why
+enum-known-why c = search needs
+
+put-bad-requires : tie.Need-put-bad-requires
+put-bad-requires c κs = search needs
+
+enum-known-why-2 : tie.Need-enum-known-why-2
+enum-known-why-2 c = search needs
+
+put-fault-requires : tie.Need-put-fault-requires
+put-fault-requires c κs = search needs
+
+same-length : tie.Need-same-length
+same-length c = search needs
+
 returns : tie.Need-returns
 unfolding sheetText
 returns c = rw (c .before .before .before .before .before .why .given .1) (c .before .before .put-bad .ensures)
+
+same-length-2 : tie.Need-same-length-2
+same-length-2 c = search needs
 
 returns-2 : tie.Need-returns-2
 unfolding sheetText
@@ -14,5 +32,12 @@ returns-2 c = rw (c .before .before .before .before .before .why2 .given .1) (c 
 pub put-why-spec : {M : Type 1} → statement M
 put-why-spec =
     tie.close
-    (tie.spec (λ c. search needs) (λ c κs. search needs) (λ c. search needs) (λ c κs. search needs) (λ c. search needs)
-    returns (λ c. search needs) returns-2)
+    (tie.spec
+    enum-known-why
+    put-bad-requires
+    enum-known-why-2
+    put-fault-requires
+    same-length
+    returns
+    same-length-2
+    returns-2)
