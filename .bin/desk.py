@@ -17,8 +17,8 @@ import script  # noqa: E402
 BUTTONS = script.BUTTONS
 
 BEACONS = [
-    None, "announcement", "conditional clear", "clear", "protected crossing", "preannouncement", "caution", "before-stop", "stop",
-    "crossing or limit", "limit", "limit",
+    None, "announcement or other", "conditional clear", "clear", "protected crossing", "preannouncement", "caution", "before-stop",
+    "stop", "crossing or limit", "limit", "limit",
 ]
 CAUSES = [
     None, "a main window missed", "a side window missed", "a reminder missed", "a stop signal passed without override", "too fast",
@@ -89,8 +89,8 @@ class Card(NamedTuple):
         return pulses * self.tick * 9 / 2500
 
     def travel(self, pulses):
-        """Of one sample, in metres."""
-        return pulses * self.tick / 10_000
+        """Of one sample, in tenths of a millimetre: document 01's m."""
+        return pulses * self.tick
 
 
 class Sample(NamedTuple):

@@ -36,7 +36,8 @@ class Picture:
     def __init__(self, ride, title, over_distance):
         self.ride, self.title, self.over_distance = ride, title, over_distance
         self.samples = ride.samples[:len(ride.answers)]
-        self.travelled = [0, *itertools.accumulate(ride.card.travel(sample.pulses) for sample in self.samples)]
+        travel = itertools.accumulate(ride.card.travel(sample.pulses) for sample in self.samples)
+        self.travelled = [0, *(tenths / 10_000 for tenths in travel)]  # in metres
         if over_distance and not self.travelled[-1]:
             raise plain.Ends("the train does not move, so there is no distance to draw it over")
         # Where each sample begins, in seconds or metres, and where the last ends; behind a refusal some room is left.

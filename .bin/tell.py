@@ -8,7 +8,7 @@ import plain
 
 USAGE = """usage: ./tell CARD < RECORDING
 
-Tells a ride as a page: a line for each sample at which something changes, with its number and time, the metres travelled before it,
+Tells a ride as a page: a line for each sample at which something changes, with its number and time, the metres travelled with it,
 the train's speed and its limit in km/h, and in words what is pressed and read, lamps, brake, crossing icon and limit. A refusal
 ends the page."""
 
@@ -21,6 +21,11 @@ DROP = 255
 
 def kmh(hundredths):
     return f"{hundredths / 100:.2f}"
+
+
+def metres(travel):
+    """Of tenths of a millimetre; what is not a whole decimetre is left out, so that 79.99 m are not 80."""
+    return f"{travel // 1000 / 10:.1f}"
 
 
 def listed(names):
@@ -75,27 +80,27 @@ def answered(answer, last):
 
 
 def happenings(ride):
-    """For each accepted sample its number, the metres before it, and what happens there. The ride begins standing, in CONV, with
+    """For each accepted sample its number, the travel with it, and what happens there. The ride begins standing, in CONV, with
     nothing lit."""
     before, said = desk.Sample(0, 0, 0, 1), desk.Answer(0, 0, 0, 0, 0)
-    metres = 0
+    travel = 0
     for i, (sample, answer) in enumerate(ride.steps()):
         words = [*driven(ride, i, sample, before), *limit_words(ride.answers, i), *answered(answer, said)]
         if i == 0:
             words.insert(0, "the ride begins")
         if i == len(ride.answers) - 1 and ride.refusal is None:
             words.append("the ride ends")
-        yield i + 1, metres, sample, answer, words
-        metres += ride.card.travel(sample.pulses)
+        travel += ride.card.travel(sample.pulses)
+        yield i + 1, travel, sample, answer, words
         before, said = sample, answer
 
 
 def rows(ride):
     """The lines of the page, a long one broken."""
-    for n, metres, sample, answer, words in happenings(ride):
+    for n, travel, sample, answer, words in happenings(ride):
         if words:
             speed = ride.card.speed(sample.pulses)
-            head = f"{n:5} {desk.clock(n - 1):>7} {metres:8.1f} {speed:7.2f} {kmh(answer.limit):>7}   "
+            head = f"{n:5} {desk.clock(n - 1):>7} {metres(travel):>8} {speed:7.2f} {kmh(answer.limit):>7}   "
             yield textwrap.fill("; ".join(words), WIDTH, initial_indent=head, subsequent_indent=" " * len(head))
 
 
@@ -104,8 +109,8 @@ def about(ride):
     card, count = ride.card, len(ride.answers)
     train = f"Train type {ride.kind}, T {desk.TYPES[ride.kind]} km/h."
     yield f"Card: version {card.version}, vmax {card.vmax} km/h, {card.tick / 10:.1f} mm a pulse. {train}"
-    metres = sum(card.travel(sample.pulses) for sample, _ in ride.steps())
-    yield f"{count} samples, {desk.duration(count)}, {metres:.1f} m. Speeds in km/h; the limit is the supervised speed."
+    travel = sum(card.travel(sample.pulses) for sample, _ in ride.steps())
+    yield f"{count} samples, {desk.duration(count)}, {metres(travel)} m. Speeds in km/h; the limit is the supervised speed."
 
 
 def refused(ride):
