@@ -25,7 +25,9 @@ def ride(name, card, given=None):
     """Prints the ride of a recording, standard input where no other is given; a refusal is said in words too. Gives the status."""
     heard = programs.pass_on(name, [card], given)
     if heard.refusal:
-        desk.say_refusal(int(heard.refusal.split()[1]), heard.lines - 2)  # the heading and the refusal are lines too
+        number = int(heard.refusal.split()[1])
+        desk.say_refusal(number, heard.lines - 2)  # the heading and the refusal are lines too
+        desk.say_if_text(number, plain.read_again(card), plain.read_again(given.name if given else "/dev/stdin"))
     return heard.status()
 
 

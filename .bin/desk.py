@@ -47,6 +47,7 @@ REFUSALS = {
 }
 OF_CARD = range(1, 7)
 OF_SAMPLE = range(8, 12)
+OF_RECORDING = 14
 
 
 def refusal_words(number, answered):
@@ -59,6 +60,14 @@ def say_refusal(number, answered):
     """Says the refusal of a ride on standard error, in words."""
     more = "; show_card says more" if number in OF_CARD else ""
     plain.complain(f"ride refused: {refusal_words(number, answered)} (refusal {number}{more})")
+
+
+def say_if_text(number, card, recording):
+    """Says on standard error that the bytes by which a ride was refused are a text."""
+    if number in OF_CARD:
+        plain.say_if_text("card", card)
+    elif number == OF_RECORDING:
+        plain.say_if_text("recording", recording)
 
 
 def names(mask):
@@ -118,6 +127,7 @@ class Ride:
     A card and samples are there as far as there are answers."""
 
     def __init__(self, card, recording):
+        self.given = card, recording
         with tempfile.NamedTemporaryFile() as area:
             area.write(card)
             area.flush()

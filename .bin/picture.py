@@ -334,6 +334,7 @@ def main(arguments):
     plain.say(drawn(ride, title, over_distance))
     if ride.refusal is not None:
         desk.say_refusal(ride.refusal, len(ride.answers))
+        desk.say_if_text(ride.refusal, *ride.given)
     return 0 if ride.refusal is None else 1
 
 

@@ -6,9 +6,14 @@ could not be written. A reader that closes a pipe has what it wanted: that is no
 
 import errno
 import os
+import re
 import sys
 
 STATUS = "Status: 0 answered, 1 refused, 2 usage, a file that cannot be read, or output that could not be written."
+
+# As many bytes of a file as a proved program looks at, and the bytes of a text.
+MOST = 65536
+TEXT = re.compile(rb"[\t-\r -~]+")
 
 
 class Ends(Exception):
@@ -92,6 +97,20 @@ def file_bytes(name, most=-1):
             return source.read(most)
     except OSError as error:
         raise Ends(f"cannot read {name}: {reason(error)}") from None
+
+
+def read_again(name):
+    """The bytes of a file that a program has read. A pipe has them no more."""
+    try:
+        return file_bytes(name, MOST) if os.path.isfile(name) else b""
+    except Ends:
+        return b""
+
+
+def say_if_text(what, data):
+    """Says on standard error that bytes which were refused are a text, as a hex dump is one."""
+    if TEXT.fullmatch(data):
+        complain(f"this {what} is text, not bytes; bench/unhex makes bytes of a hex dump")
 
 
 def first_line(usage):

@@ -22,7 +22,7 @@ def command(name):
 
 
 class Heard:
-    """What a program wrote, as far as the status goes: its lines, the number of its refusal, or that it could do nothing."""
+    """What a program wrote, as far as the status goes: how many lines, the first refusal, or that it could do nothing."""
 
     def __init__(self):
         self.lines = 0
@@ -30,17 +30,13 @@ class Heard:
         self.failed = False
 
     def line(self, line):
-        """A line of standard output. Answers whether it is to be passed on."""
-        if line.startswith((b"usage: ", b"cannot read ")):
-            self.complaint(line)
-            return False
-        if line.startswith((b"refused ", b"not a tone")):
+        """A line of standard output."""
+        if line.startswith((b"refused ", b"not a tone: ")):
             self.refusal = self.refusal or line.decode("ascii", "replace")
         self.lines += 1
-        return True
 
     def complaint(self, line):
-        """A line of standard error, or one that belongs there. The system knows more of a file that cannot be read."""
+        """A line of standard error. The system knows more of a file that cannot be read."""
         self.failed = True
         if line.startswith(b"cannot read "):
             line += why_unreadable(line[len(b"cannot read "):])
@@ -64,14 +60,14 @@ def why_unreadable(name):
     return b""
 
 
-def pass_on(name, arguments, stdin=None):
-    """Runs a program and passes each of its lines on as soon as it is whole. Answers what was heard. Where the output is lost the
-    program has nothing left to do."""
+def pass_on(name, arguments, stdin=None, put=bytes):
+    """Runs a program and passes each of its lines on as soon as it is whole, as `put` has it. Answers what was heard. Where the output
+    is lost the program has nothing left to do."""
     heard = Heard()
     with subprocess.Popen(command(name) + arguments, stdin=stdin, stdout=subprocess.PIPE, stderr=subprocess.PIPE,
                           close_fds=False) as program:  # an argument may be /dev/fd/63
         try:
-            pass_lines(program, heard)
+            pass_lines(program, heard, put)
         except (plain.Ends, plain.Enough):
             program.kill()
             raise
@@ -80,7 +76,7 @@ def pass_on(name, arguments, stdin=None):
     return heard
 
 
-def pass_lines(program, heard):
+def pass_lines(program, heard, put):
     """Passes on what a program writes, until both its outputs have ended."""
     with selectors.DefaultSelector() as sources:
         for output in (program.stdout, program.stderr):
@@ -92,7 +88,9 @@ def pass_lines(program, heard):
                     sources.unregister(source.fileobj)
                     lines = lines_of(source.data)
                 if source.fileobj is program.stdout:
-                    plain.say(b"".join(line + b"\n" for line in lines if heard.line(line)))
+                    for line in lines:
+                        heard.line(line)
+                    plain.say(b"".join(put(line) + b"\n" for line in lines))
                 else:
                     for line in lines:
                         heard.complaint(line)
@@ -122,9 +120,8 @@ def answer(name, arguments, given):
     heard = Heard()
     for line in lines_of(ran.stderr):
         heard.complaint(line)
-    lines = [line for line in lines_of(ran.stdout) if heard.line(line)]
     if heard.failed:
         raise plain.Ends
     if ran.returncode != 0:
         raise plain.Ends(f"{name} ended with status {ran.returncode}")
-    return [line.decode("ascii", "replace") for line in lines]
+    return [line.decode("ascii", "replace") for line in lines_of(ran.stdout)]

@@ -110,7 +110,8 @@ def about(ride):
     train = f"Train type {ride.kind}, T {desk.TYPES[ride.kind]} km/h."
     yield f"Card: version {card.version}, vmax {card.vmax} km/h, {card.tick / 10:.1f} mm a pulse. {train}"
     travel = sum(card.travel(sample.pulses) for sample, _ in ride.steps())
-    yield f"{count} samples, {desk.duration(count)}, {metres(travel)} m. Speeds in km/h; the limit is the supervised speed."
+    samples = "1 sample" if count == 1 else f"{count} samples"
+    yield f"{samples}, {desk.duration(count)}, {metres(travel)} m. Speeds in km/h; the limit is the supervised speed."
 
 
 def refused(ride):
@@ -138,6 +139,7 @@ def main(arguments):
     ride = desk.given_ride(arguments[0], USAGE)
     for line in page(ride):
         plain.say(line + "\n")
+    desk.say_if_text(ride.refusal, *ride.given)
     return 0 if ride.refusal is None else 1
 
 

@@ -1,9 +1,11 @@
-"""tones.py SHEET [TONE ..]: runs show_tones for a person, with a status. Tones may stand as arguments, in kHz too; then each line has
-the f32 that its tone became, and the offset, in kHz beside the bits."""
+"""tones.py SHEET [TONE ..]: runs show_tones for a person, with a status. Tones may be given in kHz too; each line has the f32 that its
+tone became, and the offset, in kHz beside the bits."""
 
+import os
 import re
 import struct
 import sys
+import threading
 from fractions import Fraction
 
 import plain
@@ -13,12 +15,15 @@ USAGE = """usage: ./show_tones SHEET [TONE ..] [< TONES]
 
 Says what each tone reads as under the sheet in the file SHEET: a beacon or the permanent tone, with the offset from the row's
 centre, or nothing. A TONE is a decimal number of kHz, as 60.76, or the eight hexadecimal digits of an f32 in kHz, as 42730a3d.
-Without one, tones come on standard input, a line each, as hexadecimal digits. A decimal is rounded to the nearest f32, once."""
+Without one, tones come on standard input, a line each, in the same forms. A decimal is rounded to the nearest f32, once."""
 
-FORMS = "a tone is a decimal number of kHz, as 60.76, or the eight hexadecimal digits of its f32, as 42730a3d"
+# The program's words where a line is no tone, and what stands behind them: a tone in kHz is taken here alone.
+BITS_FORM = "a tone is the eight hexadecimal digits of its f32 in kHz, as 42730a3d"
+KHZ_FORM = ", or a number of kHz with a decimal point, as 60.76"
+
 BITS = re.compile(r"[0-9A-Fa-f]{8}")
-DECIMAL = re.compile(r"[+-]?(\d+\.?\d*|\.\d+)")
-OFFSET = re.compile(r" offset ([0-9a-f]{8})")
+DECIMAL = re.compile(r"[+-]?([0-9]+\.?[0-9]*|\.[0-9]+)")
+ANSWER = re.compile(r"([0-9a-f]{8}) (?:nothing|(?:permanent|beacon [0-9]+) offset ([0-9a-f]{8}))")
 
 
 def float_of(bits):
@@ -26,23 +31,23 @@ def float_of(bits):
 
 
 def nearest(text):
-    """The bits of the f32 nearest to a decimal, None where it is too large for one. The decimal is rounded by way of an f64, so
-    what comes of it or a neighbour is the nearest; of two as near it is the even one."""
-    exact = Fraction(text)
+    """The bits of the f32 nearest to a decimal, None where it is too large for one, or has thousands of digits. The decimal is rounded
+    by way of an f64, so what comes of it or a neighbour is the nearest; of two as near it is the even one."""
     try:
+        exact = Fraction(text)
         first = int.from_bytes(struct.pack(">f", exact), "big")
-    except OverflowError:
+    except (OverflowError, ValueError):
         return None
     near = [bits for bits in (first - 1, first, first + 1) if 0 <= bits < 1 << 32 and abs(float_of(bits)) < float("inf")]
     return min(near, key=lambda bits: (abs(Fraction(float_of(bits)) - exact), bits & 1))
 
 
 def bits_of(text):
-    """The bits of a tone as a person writes it, None where it is none."""
-    text = text.strip()
-    if BITS.fullmatch(text):
-        return int(text, 16)
-    return nearest(text) if DECIMAL.fullmatch(text) else None
+    """The bits of a tone as a person writes it, None where it is none. Blanks count for nothing."""
+    digits = text.replace(" ", "").replace("\t", "")
+    if BITS.fullmatch(digits):
+        return int(digits, 16)
+    return nearest(text.strip()) if DECIMAL.fullmatch(text.strip()) else None
 
 
 def khz(bits):
@@ -50,33 +55,64 @@ def khz(bits):
     return f"{float_of(bits):.9g} kHz"
 
 
-def beside(line, bits):
-    """What stands beside a line of the program."""
-    offset = OFFSET.search(line)
-    return f"{line}   = {khz(bits)}" + (f", offset {khz(int(offset[1], 16))}" if offset else "")
+def beside(line):
+    """A line of the program, and what stands beside it."""
+    answer = ANSWER.fullmatch(line)
+    if not answer:
+        return line + KHZ_FORM if line.startswith("not a tone: ") else line
+    tone, offset = (khz(int(bits, 16)) if bits else None for bits in answer.groups())
+    return f"{line}   = {tone}" + (f", offset {offset}" if offset else "")
+
+
+def asked(bits):
+    """A tone as the program reads it."""
+    return b"%08x\n" % bits
 
 
 def say_tones(sheet, tones):
-    """A line for each tone, or the refusal of the sheet."""
+    """A line for each tone of the arguments, or the refusal of the sheet. Gives the status."""
     every = [bits_of(tone) for tone in tones]
-    good = [bits for bits in every if bits is not None]
-    lines = programs.answer("show_tones", [sheet], "".join(f"{bits:08x}\n" for bits in good).encode())
+    lines = programs.answer("show_tones", [sheet], b"".join(asked(bits) for bits in every if bits is not None))
     if lines and lines[0].startswith("refused "):
         plain.say(lines[0] + "\n")
+        plain.say_if_text("sheet", plain.read_again(sheet))
         return 1
-    answers = iter(zip(lines, good))
+    answers = iter(lines)
     for tone, bits in zip(tones, every):
-        plain.say((f"not a tone: {tone}; {FORMS}" if bits is None else beside(*next(answers))) + "\n")
+        plain.say((f"not a tone: {tone}; {BITS_FORM}{KHZ_FORM}" if bits is None else beside(next(answers))) + "\n")
     return 1 if None in every else 0
+
+
+# ---- tones on standard input
+
+def hand_on(target):
+    """Hands each line of standard input on as soon as it is whole, a decimal as its bits, until the input ends or nobody reads on."""
+    try:
+        with open(0, "rb", closefd=False) as given, open(target, "wb") as program:
+            while line := given.readline(programs.CHUNK):
+                bits = bits_of(line.decode("latin-1"))
+                program.write(line if bits is None else asked(bits))
+                program.flush()
+    except OSError:
+        pass
+
+
+def pass_tones(sheet):
+    """An answer for each line of standard input as it comes, or the refusal of the sheet. Gives the status."""
+    plain.check_input("tones")
+    source, target = os.pipe()
+    threading.Thread(target=hand_on, args=[target], daemon=True).start()
+    heard = programs.pass_on("show_tones", [sheet], source, lambda line: beside(line.decode("latin-1")).encode("latin-1"))
+    if heard.refusal and heard.refusal.startswith("refused "):
+        plain.say_if_text("sheet", plain.read_again(sheet))
+    return heard.status()
 
 
 def main(arguments):
     if not arguments:
         raise plain.Usage
-    if arguments[1:]:
-        return say_tones(arguments[0], arguments[1:])
-    plain.check_input("tones")
-    return programs.pass_on("show_tones", arguments).status()
+    sheet, *tones = arguments
+    return say_tones(sheet, tones) if tones else pass_tones(sheet)
 
 
 plain.run("show_tones", USAGE, main, sys.argv[1:])

@@ -27,16 +27,20 @@ rowKind k = pick (eqb k 0) (ascii " (permanent tone)") (labelled (ascii " (beaco
 unfoldable pub rowName : ℕ → List ℕ
 rowName k = labelled (ascii "row ") k ++ rowKind k
 
--- "A row needs finite numbers, 32 ≤ low ≤ centre ≤ high ≤ 128, high ≤ 2 × low, and no tone shared with an earlier row": the first of these
--- that it lacks by itself, 0 where it lacks none
+-- "A row needs finite numbers, 32 ≤ low ≤ centre ≤ high ≤ 128, high ≤ 2 × low, and no tone shared with an earlier row": what it needs by
+-- itself, behind finite numbers
+abbrev pub isOrdered : ToneRow → Bool
+isOrdered r = le (khz 32) (r .low) && le (r .low) (r .centre) && le (r .centre) (r .high)
+
+abbrev pub endsBy128 : ToneRow → Bool
+endsBy128 r = le (r .high) (khz 128)
+
+abbrev pub endsByTwiceLow : ToneRow → Bool
+endsByTwiceLow r = le (r .high) (mul binary32 (khz 2) (r .low))
+
+-- the first of all that it lacks, 0 where it lacks none
 unfoldable pub reasonOf : ToneRow → ℕ
-reasonOf r =
-    firstBad 0
-    ((1, allFinite r)
-    ∷ (2, le (khz 32) (r .low) && le (r .low) (r .centre) && le (r .centre) (r .high))
-    ∷ (3, le (r .high) (khz 128))
-    ∷ (4, le (r .high) (mul binary32 (khz 2) (r .low)))
-    ∷ [])
+reasonOf r = firstBad 0 ((1, allFinite r) ∷ (2, isOrdered r) ∷ (3, endsBy128 r) ∷ (4, endsByTwiceLow r) ∷ [])
 
 -- one more than the number of the first of n rows that shares a tone with row k, 0 where none does
 unfoldable pub sharedBy : List ℕ → ℕ → ℕ → ℕ
@@ -129,8 +133,7 @@ toneText area bits = answerText area bits (classifyOf area (ofBits binary32 bits
 -- what is no tone is said back, with the form of one
 unfoldable pub otherText : List ℕ → List ℕ
 otherText line =
-    ascii "not a tone: " ++ line
-    ++ ascii "; a tone is the eight hexadecimal digits of its f32 in kHz, as 42730a3d; in kHz it goes behind the sheet, as ./show_tones SHEET 60.76\n"
+    ascii "not a tone: " ++ line ++ ascii "; a tone is the eight hexadecimal digits of its f32 in kHz, as 42730a3d\n"
 
 -- nothing for a line of blanks
 unfoldable pub shownTone : List ℕ → List ℕ → List ℕ

@@ -29,10 +29,10 @@ ghost use lib.Ieee.Scale.{finite};
 ghost use Rattle.leaf.specs.Answers.{refusalOf};
 ghost use Rattle.leaf.specs.Choosing.{pick};
 ghost use Rattle.tone.specs.Facts.{rowIn};
-ghost use Rattle.tone.specs.Tones.{share};
+ghost use Rattle.tone.specs.Tones.{allFinite, share};
 ghost use Rattle.text.specs.Hex.{hexValue};
 ghost use Rattle.text.specs.Typing.{typed, Held};
-ghost use Rattle.shown_tones.specs.Shown.{rowKind, rowName, reasonOf, sharedBy, reasonText, rowText, lengthText, versionText, placeText, faultText, badText, sheetText, shownSheet};
+ghost use Rattle.shown_tones.specs.Shown.{rowKind, rowName, isOrdered, endsBy128, endsByTwiceLow, reasonOf, sharedBy, reasonText, rowText, lengthText, versionText, placeText, faultText, badText, sheetText, shownSheet};
 ghost use Rattle.shown_tones.specs.Shown.{isBlank, bytesIn, onlyDigits, isTone, bitsOf, readingText, givenText, toneText, otherText, shownTone};
 
 // ---- a sheet's refusal
@@ -80,16 +80,38 @@ fn shares(a: ToneRow, b: ToneRow) -> bool
     (a.low <= b.high) & (b.low <= a.high)
 }
 
-// The first thing that the row lacks by itself.
+// What a row needs by itself, a function each; then the first of these that it lacks, 0 where it lacks none.
+fn is_all_finite(r: ToneRow) -> bool
+    ensures { λ t. ⌜ t ≡ allFinite r ⌝ }
+{
+    is_finite(r.low) & is_finite(r.centre) & is_finite(r.high)
+}
+
+fn is_ordered(r: ToneRow) -> bool
+    ensures { λ t. ⌜ t ≡ isOrdered r ⌝ }
+{
+    (32.0 <= r.low) & (r.low <= r.centre) & (r.centre <= r.high)
+}
+
+fn ends_by_128(r: ToneRow) -> bool
+    ensures { λ t. ⌜ t ≡ endsBy128 r ⌝ }
+{
+    r.high <= 128.0
+}
+
+fn ends_by_twice_low(r: ToneRow) -> bool
+    ensures { λ t. ⌜ t ≡ endsByTwiceLow r ⌝ }
+{
+    r.high <= 2.0 * r.low
+}
+
 fn reason_of(r: ToneRow) -> u8
     ensures { λ n. ⌜ n ≡ reasonOf r ⌝ }
 {
-    let finite = is_finite(r.low) & is_finite(r.centre) & is_finite(r.high);
-    let ordered = (32.0 <= r.low) & (r.low <= r.centre) & (r.centre <= r.high);
-    let n = or_fault(0, 1, finite);
-    let n = or_fault(n, 2, ordered);
-    let n = or_fault(n, 3, r.high <= 128.0);
-    or_fault(n, 4, r.high <= 2.0 * r.low)
+    let n = or_fault(0, 1, is_all_finite(r));
+    let n = or_fault(n, 2, is_ordered(r));
+    let n = or_fault(n, 3, ends_by_128(r));
+    or_fault(n, 4, ends_by_twice_low(r))
 }
 
 // One more than the number of the first earlier row that shares a tone with row k, 0 where none does.
@@ -311,7 +333,7 @@ fn put_other(out: &mut [u8], at: usize, line: &[u8]) -> usize
     put_text(
         out,
         at,
-        b"; a tone is the eight hexadecimal digits of its f32 in kHz, as 42730a3d; in kHz it goes behind the sheet, as ./show_tones SHEET 60.76\n",
+        b"; a tone is the eight hexadecimal digits of its f32 in kHz, as 42730a3d\n",
     )
 }
 
