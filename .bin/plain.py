@@ -20,6 +20,10 @@ class Ends(Exception):
     """Ends the program with status 2. What there is to say stands in the exception, unless it is said already."""
 
 
+class Refused(Exception):
+    """Ends the program with status 1: what it was given is refused, in the exception's words."""
+
+
 class Usage(Exception):
     """The arguments are not those of the usage."""
 
@@ -117,12 +121,12 @@ def first_line(usage):
     return usage.split("\n", 1)[0]
 
 
-def run(name, usage, work, arguments):
+def run(name, usage, work, arguments, statuses=STATUS):
     """Does the work with the arguments, and ends with the status that it gives."""
     hold_descriptors()
     try:
         if arguments[:1] == ["--help"]:
-            say(f"{usage}\n\n{STATUS}\n")
+            say(f"{usage}\n\n{statuses}\n")
             status = 0
         else:
             status = work(arguments)
@@ -133,6 +137,9 @@ def run(name, usage, work, arguments):
         if ends.args:
             complain(f"{name}: {ends}")
         status = 2
+    except Refused as why:
+        complain(str(why))
+        status = 1
     except Enough:
         status = 0
     except KeyboardInterrupt:

@@ -10,6 +10,11 @@ import pathlib
 import sys
 
 HERE = pathlib.Path(__file__).resolve().parent
+sys.path.append(str(HERE.parent / ".bin"))
+
+import plain  # noqa: E402
+
+STATUS = "Status: 0 done, 1 a script at fault or a print that differs, 2 usage, a file that cannot be read or output that could not be written."
 
 BUTTONS = [
     "announcement", "preannouncement", "caution", "conditional clear", "before-stop", "crossing",
@@ -60,15 +65,17 @@ def shown(path):
 
 def stop(path, number, why):
     """Ends the program, naming the line at fault."""
-    sys.exit(f"{shown(path)}:{number}: {why}")
+    raise plain.Refused(f"{shown(path)}:{number}: {why}")
 
 
 def lines(path):
     """The lines of a text that say something: number and words, comments gone."""
     try:
         text = path.read_text(encoding="utf-8")
-    except (OSError, UnicodeDecodeError):
-        sys.exit(f"cannot read {shown(path)}")
+    except OSError as error:
+        raise plain.Ends(f"cannot read {shown(path)}: {plain.reason(error)}") from None
+    except UnicodeDecodeError:
+        raise plain.Refused(f"{shown(path)}: it is no text") from None
     for number, line in enumerate(text.splitlines(), 1):
         words = line.split("#", 1)[0].split()
         if words:
@@ -374,7 +381,7 @@ def rides(names):
             continue
         chosen = [lesson for lesson in lessons() if wanted in ("all", lesson[0], lesson[1].parent.name)]
         if not chosen:
-            sys.exit(f"there is no lesson {wanted}; lessons/README.md lists them")
+            raise plain.Ends(f"there is no lesson {wanted}; lessons/README.md lists them")
         for name, path, expected in chosen:
             found += read_script(path, name, expected)
     return found
