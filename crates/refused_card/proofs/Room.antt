@@ -5,7 +5,6 @@ use mathlib.Core.Bool.{not, _&&_}
 use mathlib.Core.List.{List, [], _++_}
 use lib.Dec.{ltb, eqb}
 use lib.ListN.{length, length-append}
-use Rattle.leaf.specs.Choosing.{pick}
 use Rattle.leaf.specs.Bytes.{byte, word}
 use Rattle.leaf.specs.declared.Refusal.{Refusal}
 use Rattle.leaf.specs.declared.Refusal.the-variants.{Number, At}
@@ -14,7 +13,7 @@ use Rattle.text.specs.Decimal.{counted}
 use Rattle.text.specs.Words.{ascii, labelled}
 use Rattle.text.proofs.Lengths.{decimal-length, word-length, pick-length}
 use Rattle.refused_card.specs.Names.{rowName, rowSetting, settingName}
-use Rattle.refused_card.specs.Refused.{reasonText, bytesDue, bytesFound, versionFound, lengthFound, foundText, isText, hintText, refusedText, lowEnd, highEnd, valueAt, isFinal, rangeText, faultText, whyText}
+use Rattle.refused_card.specs.Refused.{reasonText, bytesDue, bytesFound, versionFound, lengthFound, foundText, isText, hintText, refusedText, lowEnd, highEnd, valueAt, isAbove, isBelow, missedText, rangeText, faultText, whyText}
 
 pub row-name-length : (k : ℕ) → length (rowName k) ≤ 104
 row-name-length k = word-length (ascii "conditional clear|stop announcement|preannouncement|caution|before-stop|unprotected crossing|limit|start") k
@@ -54,17 +53,16 @@ unfolding refusedText
 refused-length area highest number =
     simp length-append (omega (arith, decimal-length number, reason-length number, found-length area highest number, hint-length area))
 
+missed-length : (area : List ℕ) (place : ℕ) → length (missedText area place) ≤ 20
+unfolding missedText
+missed-length area place =
+    pick-length (isAbove area place) _ _ 20 (omega arith) (pick-length (isBelow area place) _ _ 20 (omega arith) (omega arith))
+
 range-length : (area : List ℕ) (place : ℕ) → length (rangeText area place) ≤ 80
 unfolding rangeText
 range-length area place =
     simp length-append
-    (omega (
-      arith,
-      decimal-length (valueAt area place),
-      decimal-length (lowEnd place),
-      decimal-length (highEnd area place),
-      word-length (ascii "| (its initial)") (pick (isFinal place) 1 0),
-    ))
+    (omega (arith, decimal-length (valueAt area place), decimal-length (lowEnd place), decimal-length (highEnd area place), missed-length area place))
 
 fault-length : (area : List ℕ) (number place : ℕ) → length (faultText area number place) ≤ 300
 unfolding faultText

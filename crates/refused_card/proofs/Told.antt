@@ -1,14 +1,14 @@
 -- What is said of a refused card is so: the setting that is named is out of the range beside it, the bytes are fewer than those that are
 -- due, the version is above the highest, the length field is another than the one due; and a file of text is refused by its version.
-use Prim.Native.Nat.{ℕ, _+_, _/_, _%_, _≤_, _<_}
+use Prim.Native.Nat.{ℕ, _+_, _-_, _/_, _%_, _≤_, _<_}
 use native.Mathlib.Omega.{arith}
 use mathlib.Core.Path.{_≡_, refl}
 use mathlib.Core.Bool.{Bool, true, false, _&&_, _||_}
 use mathlib.Core.List.{List, [], _∷_}
-use mathlib.Core.Logic.{⊎-elim}
-use lib.Dec.{ltb, eqb, lit≤}
+use mathlib.Core.Logic.{_⊎_, inl, inr, ⊎-elim}
+use lib.Dec.{leb, ltb, eqb, lit≤}
 use lib.ListN.{length}
-use borrow.Author.Tests.{eqb-true, eqb-false, lt-ltb, le-ltb, leb-true}
+use borrow.Author.Tests.{eqb-true, eqb-false, ne-eqb, lt-ltb, le-ltb, leb-true, ltb-true, ltb-false}
 use Rattle.leaf.specs.Choosing.{pick, and-split}
 use Rattle.leaf.specs.Numbers.{within}
 use Rattle.leaf.specs.Bytes.{byte, word}
@@ -16,10 +16,11 @@ use Rattle.leaf.specs.Answers.{refused, refusedAt}
 use Rattle.card.specs.Card.{baseKind, lengthOf, rowAt, reminds}
 use Rattle.card.specs.Reading.{kept, functionsFrom, settingsFrom, settingsOf, readCard}
 use Rattle.card.specs.Plain.{Within, Setting, Vmax, Tick, Bts, Initial, Last, Drop, Functions, X, Y, OfCard, place, SettingMet, Known, LengthOf, ReadAs, under-3, version-above, other-length, short, out-of-range}
+use Rattle.text.specs.Words.{ascii}
 use Rattle.card.proofs.Listed.{from-at}
 use Rattle.card.proofs.Area.{version-cases, length-is, length-only, card-version}
 use Rattle.card.proofs.Exactly.{read-exactly}
-use Rattle.refused_card.specs.Refused.{bytesDue, isCharacter, isText, lowEnd, rowHighEnd, tailHighEnd, highEnd, valueAt}
+use Rattle.refused_card.specs.Refused.{bytesDue, isCharacter, isText, lowEnd, rowHighEnd, tailHighEnd, highEnd, valueAt, isFinal, isAbove, isBelow, missedText}
 
 -- ---- a setting out of range
 
@@ -74,6 +75,41 @@ module _ (area : List ℕ) where
   all-told known X of out w = x-told out w
   all-told known Y of out w = y-told out w
 
+-- ---- a final
+
+-- it is above its initial, or below 1, and that is what is said
+abbrev Above : List ℕ → ℕ → Type 0
+Above area at = (byte area (at - 1) < byte area at) × (missedText area at ≡ ascii ": above its initial")
+
+abbrev Below : List ℕ → ℕ → Type 0
+Below area at = (byte area at < 1) × (missedText area at ≡ ascii ": below 1")
+
+module _ (area : List ℕ) (at : ℕ) (final : isFinal at ≡ true) where
+  -- a final's range is 1 to the byte before it
+  final-outside : Outside area at → Within 1 (byte area (at - 1)) (byte area at) → ⊥
+  unfolding lowEnd highEnd rowHighEnd valueAt
+  final-outside out =
+      let split = and-split (within 7 38 at) (eqb ((at - 7) % 4) 1) final in
+      let ends = and-split (leb 7 at) (leb at 38) (split .0) in
+      let low = leb-true 7 at (ends .0) in
+      let high = leb-true at 38 (ends .1) in
+      let field = eqb-true ((at - 7) % 4) 1 (split .1) in
+      simp (ne-eqb at 3 (λ e. omega arith), ne-eqb at 4 (λ e. omega arith), ne-eqb at 39 (λ e. omega arith), ne-eqb at 40 (λ e. omega arith), ne-eqb at 42 (λ e. omega arith), le-ltb at 7 low, lt-ltb at 39 (omega arith), field) at out
+
+  missed : (Within 1 (byte area (at - 1)) (byte area at) → ⊥) → Above area at ⊎ Below area at
+  unfolding isAbove isBelow missedText
+  missed out = cases (ltb (byte area (at - 1)) (byte area at)) refl
+    where
+      cases : (t : Bool) → ltb (byte area (at - 1)) (byte area at) ≡ t → Above area at ⊎ Below area at
+      cases true e = inl (ltb-true _ _ e, rw (final, e))
+      cases false e =
+          let low : byte area at < 1 = below (ltb (byte area at) 1) refl in
+          inr (low, rw (final, e, lt-ltb _ _ low))
+        where
+          below : (t : Bool) → ltb (byte area at) 1 ≡ t → byte area at < 1
+          below true l = ltb-true _ _ l
+          below false l = absurd (out (ltb-false _ _ l, ltb-false _ _ e))
+
 module _ (area : List ℕ) (highest : ℕ) where
   -- "5 | setting out of range, with place of the first": what stands there is out of the range beside it
   out-told : (n at : ℕ) → ReadAs area highest (refusedAt n at) → Outside area at
@@ -82,6 +118,10 @@ module _ (area : List ℕ) (highest : ℕ) where
 
   pub range-told : (n at : ℕ) → readCard area highest ≡ refusedAt n at → Outside area at
   range-told n at e = out-told n at (read-exactly area highest (refusedAt n at) .0 e)
+
+  -- "final 1..initial": of a final that is refused the end is named that it misses
+  pub final-told : (n at : ℕ) → readCard area highest ≡ refusedAt n at → isFinal at ≡ true → Above area at ⊎ Below area at
+  final-told n at e final = missed area at final (final-outside area at final (range-told n at e))
 
   -- ---- a header
 

@@ -82,14 +82,24 @@ highEnd area place = pick (ltb place 7) (pick (eqb place 4) 1000 200) (pick (ltb
 unfoldable pub valueAt : List ℕ → ℕ → ℕ
 valueAt area place = pick (eqb place 4 || eqb place 40 || eqb place 42) (word area place) (byte area place)
 
--- "final 1..initial": the place of a final, whose upper end is the byte before it
+-- "eight rows of four: initial, final, delay, drop": the place of a final
 abbrev pub isFinal : ℕ → Bool
 isFinal place = within 7 38 place && eqb ((place - 7) % 4) 1
+
+-- "final 1..initial"; "final above initial is the final's fault": the end that a final misses, the initial being the byte before it
+unfoldable pub isAbove : List ℕ → ℕ → Bool
+isAbove area place = isFinal place && ltb (byte area (place - 1)) (byte area place)
+
+unfoldable pub isBelow : List ℕ → ℕ → Bool
+isBelow area place = isFinal place && ltb (byte area place) 1
+
+unfoldable pub missedText : List ℕ → ℕ → List ℕ
+missedText area place = pick (isAbove area place) (ascii ": above its initial") (pick (isBelow area place) (ascii ": below 1") [])
 
 unfoldable pub rangeText : List ℕ → ℕ → List ℕ
 rangeText area place =
     labelled (ascii ": is ") (valueAt area place) ++ labelled (ascii ", must be ") (lowEnd place) ++ labelled (ascii "..") (highEnd area place)
-    ++ wordOf (ascii "| (its initial)") (pick (isFinal place) 1 0)
+    ++ missedText area place
 
 unfoldable pub faultText : List ℕ → ℕ → ℕ → List ℕ
 faultText area number place = refusedAtPlace number place ++ ascii ": " ++ settingName place ++ rangeText area place ++ ascii "\n"

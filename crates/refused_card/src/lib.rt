@@ -19,7 +19,7 @@ ghost use Rattle.card.specs.Card.{lengthOf};
 ghost use Rattle.text.specs.Typing.{typed};
 ghost use Rattle.refused_card.specs.Names.{rowName, rowSetting, settingName};
 ghost use Rattle.refused_card.specs.Refused.{reasonText, bytesDue, bytesFound, versionFound, lengthFound, foundText, isCharacter, isText, hintText, refusedText};
-ghost use Rattle.refused_card.specs.Refused.{lowEnd, rowHighEnd, tailHighEnd, highEnd, valueAt, isFinal, rangeText, faultText, whyText};
+ghost use Rattle.refused_card.specs.Refused.{lowEnd, rowHighEnd, tailHighEnd, highEnd, valueAt, isFinal, isAbove, isBelow, missedText, rangeText, faultText, whyText};
 
 // ---- names
 
@@ -245,13 +245,42 @@ fn is_final(place: u32) -> bool
     (7 <= place) & (place <= 38) & (less(place, 7) % 4 == 1)
 }
 
+// Is the final at a place above its initial, which stands before it.
+fn is_above(area: &[u8], place: u32) -> bool
+    ensures { λ r. ⌜ r ≡ isAbove (now (area .entry)) place ⌝ }
+{
+    let initial = byte_at(area, less(place, 1) as usize);
+    is_final(place) & (initial < byte_at(area, place as usize))
+}
+
+fn is_below(area: &[u8], place: u32) -> bool
+    ensures { λ r. ⌜ r ≡ isBelow (now (area .entry)) place ⌝ }
+{
+    is_final(place) & (byte_at(area, place as usize) < 1)
+}
+
+// Which end of its range a final misses.
+fn put_missed(out: &mut [u8], at: usize, area: &[u8], place: u32) -> usize
+    ensures { λ r. ⌜ (now (out .exit), r) ≡ typed (missedText (now (area .entry)) place) (now (out .entry), at) ⌝ }
+{
+    let above = is_above(area, place);
+    if above {
+        return put_text(out, at, b": above its initial");
+    }
+    let below = is_below(area, place);
+    if below {
+        return put_text(out, at, b": below 1");
+    }
+    at
+}
+
 fn put_range(out: &mut [u8], at: usize, area: &[u8], place: u32) -> usize
     ensures { λ r. ⌜ (now (out .exit), r) ≡ typed (rangeText (now (area .entry)) place) (now (out .entry), at) ⌝ }
 {
     let at = put_labelled(out, at, b": is ", value_at(area, place));
     let at = put_labelled(out, at, b", must be ", low_end(place));
     let at = put_labelled(out, at, b"..", high_end(area, place));
-    put_word(out, at, b"| (its initial)", choose32(is_final(place), 1, 0))
+    put_missed(out, at, area, place)
 }
 
 fn put_fault(out: &mut [u8], at: usize, area: &[u8], number: u8, place: u8) -> usize
