@@ -1,8 +1,8 @@
 -- How long the text of a refusal can be: 400 bytes hold every one whole.
-use Prim.Native.Nat.{ℕ, _+_, _-_, _/_, _%_, _≤_}
+use Prim.Native.Nat.{ℕ, _-_, _/_, _%_, _≤_}
 use native.Mathlib.Omega.{arith}
 use mathlib.Core.Bool.{not, _&&_}
-use mathlib.Core.List.{List, [], _++_}
+use mathlib.Core.List.{List, []}
 use lib.Dec.{ltb, eqb}
 use lib.ListN.{length, length-append}
 use Rattle.leaf.specs.Bytes.{byte, word}
@@ -10,7 +10,7 @@ use Rattle.leaf.specs.declared.Refusal.{Refusal}
 use Rattle.leaf.specs.declared.Refusal.the-variants.{Number, At}
 use Rattle.card.specs.Card.{lengthOf}
 use Rattle.text.specs.Decimal.{counted}
-use Rattle.text.specs.Words.{ascii, labelled}
+use Rattle.text.specs.Words.{ascii}
 use Rattle.text.proofs.Lengths.{decimal-length, word-length, pick-length}
 use Rattle.refused_card.specs.Names.{rowName, rowSetting, settingName}
 use Rattle.refused_card.specs.Refused.{reasonText, bytesDue, bytesFound, versionFound, lengthFound, foundText, isText, hintText, refusedText, lowEnd, highEnd, valueAt, isAbove, isBelow, missedText, rangeText, faultText, whyText}

@@ -1,21 +1,22 @@
--- What is said of a refused card is so: the setting that is named is out of the range beside it, the bytes are fewer than those that are
--- due, the version is above the highest, the length field is another than the one due; and a file of text is refused by its version.
-use Prim.Native.Nat.{ℕ, _+_, _-_, _/_, _%_, _≤_, _<_}
+-- What is said of a refused card is so: the setting that is named is out of the range beside it, and a final misses the end that is
+-- named; the bytes are fewer than those that are due, the version is above the highest, the length field is another than the one due;
+-- and a file of text is refused by its version.
+use Prim.Native.Nat.{ℕ, _-_, _/_, _%_, _≤_, _<_}
 use native.Mathlib.Omega.{arith}
 use mathlib.Core.Path.{_≡_, refl}
-use mathlib.Core.Bool.{Bool, true, false, _&&_, _||_}
+use mathlib.Core.Bool.{Bool, true, false, _||_}
 use mathlib.Core.List.{List, [], _∷_}
 use mathlib.Core.Logic.{_⊎_, inl, inr, ⊎-elim}
 use lib.Dec.{leb, ltb, eqb, lit≤}
 use lib.ListN.{length}
 use borrow.Author.Tests.{eqb-true, eqb-false, ne-eqb, lt-ltb, le-ltb, leb-true, ltb-true, ltb-false}
-use Rattle.leaf.specs.Choosing.{pick, and-split}
+use Rattle.leaf.specs.Choosing.{and-split}
 use Rattle.leaf.specs.Numbers.{within}
 use Rattle.leaf.specs.Bytes.{byte, word}
 use Rattle.leaf.specs.Answers.{refused, refusedAt}
 use Rattle.card.specs.Card.{baseKind, lengthOf, rowAt, reminds}
 use Rattle.card.specs.Reading.{kept, functionsFrom, settingsFrom, settingsOf, readCard}
-use Rattle.card.specs.Plain.{Within, Setting, Vmax, Tick, Bts, Initial, Last, Drop, Functions, X, Y, OfCard, place, SettingMet, Known, LengthOf, ReadAs, under-3, version-above, other-length, short, out-of-range}
+use Rattle.card.specs.Plain.{Within, Setting, Vmax, Tick, Bts, Initial, Last, Drop, Functions, X, Y, OfCard, place, SettingMet, Known, ReadAs, under-3, version-above, other-length, short, out-of-range}
 use Rattle.text.specs.Words.{ascii}
 use Rattle.card.proofs.Listed.{from-at}
 use Rattle.card.proofs.Area.{version-cases, length-is, length-only, card-version}
@@ -24,9 +25,9 @@ use Rattle.refused_card.specs.Refused.{bytesDue, isCharacter, isText, lo
 
 -- ---- a setting out of range
 
--- what is not so is not: of a drop, whose range is said with 255 as its upper end, the lower end is what is missed
-apart : {A B C D : Type 0} → ((A → ⊥) → A → ⊥) × ((B → ⊥) → B → ⊥) × ((C → ⊥) → C × D → ⊥)
-apart = (λ out w. out w, λ out w. out w, λ out w. out (w .0))
+-- of a row: what is printed is document 01's range, and of a drop, "drop ≥ 1", besides that it is at most 255
+alike : {A B C D : Type 0} → ((A → ⊥) → A → ⊥) × ((B → ⊥) → B → ⊥) × ((C → ⊥) → C × D → ⊥)
+alike = (λ out w. out w, λ out w. out w, λ out w. out (w .0))
 
 module _ (area : List ℕ) where
   -- what stands at a place is out of the range that is printed beside it
@@ -42,7 +43,7 @@ module _ (area : List ℕ) where
   unfolding lowEnd highEnd rowHighEnd valueAt settingsFrom rowAt
   row-told row of =
       from-at (λ k. Told (Initial k) × Told (Last k) × Told (Drop k)) 0 8
-      (apart, (apart, (apart, (apart, (apart, (apart, (apart, (apart, tt)))))))) row (omega arith) of
+      (alike, (alike, (alike, (alike, (alike, (alike, (alike, (alike, tt)))))))) row (omega arith) of
 
   functions-told : Known (byte area 2) → Told Functions
   unfolding lowEnd highEnd tailHighEnd valueAt settingsFrom functionsFrom
