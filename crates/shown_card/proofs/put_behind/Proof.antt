@@ -5,33 +5,9 @@ use Rattle.shown_card.specs.Shown.{behindText}
 use borrow.Author.Tests.{le-leb, lt-leb}
 use Rattle.text.specs.Typing.{then-typed, typed}
 
-counted-requires : tie.Need-counted-requires
-counted-requires c κs = search needs
-
 returns : tie.Need-returns
 unfolding behindText typed
 returns c = rw (← c .before .counted .ensures, le-leb _ _ (c .if1 .taken))
-
-put-many-requires : tie.Need-put-many-requires
-put-many-requires c κs = search needs
-
-slice-aggregate-put-text : tie.Need-slice-aggregate-put-text
-slice-aggregate-put-text c = search needs
-
-put-text-requires : tie.Need-put-text-requires
-put-text-requires c κs = search needs
-
-put-lines-requires : tie.Need-put-lines-requires
-put-lines-requires c κs = search needs
-
-add-put-more : tie.Need-add-put-more
-add-put-more c = search needs
-
-put-more-requires : tie.Need-put-more-requires
-put-more-requires c κs = search needs
-
-same-length : tie.Need-same-length
-same-length c = search needs
 
 returns-2 : tie.Need-returns-2
 unfolding behindText
@@ -45,14 +21,5 @@ returns-2 c =
 pub put-behind-spec : {M : Type 1} → statement M
 put-behind-spec =
     tie.close
-    (tie.spec
-    counted-requires
-    returns
-    put-many-requires
-    slice-aggregate-put-text
-    put-text-requires
-    put-lines-requires
-    add-put-more
-    put-more-requires
-    same-length
-    returns-2)
+    (tie.spec (λ c κs. search needs) returns (λ c κs. search needs) (λ c. search needs) (λ c κs. search needs)
+    (λ c κs. search needs) (λ c. search needs) (λ c κs. search needs) (λ c. search needs) returns-2)

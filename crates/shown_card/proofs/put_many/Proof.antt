@@ -4,27 +4,6 @@ use Rattle.shown_card.proofs.put_many.Tie as tie
 use Rattle.text.specs.Typing.{then-typed}
 use Rattle.shown_card.specs.Shown.{manyText}
 
-less-requires : tie.Need-less-requires
-less-requires c κs = search needs
-
-put-number-requires : tie.Need-put-number-requires
-put-number-requires c κs = search needs
-
-slice-aggregate-put-word : tie.Need-slice-aggregate-put-word
-slice-aggregate-put-word c = search needs
-
-cast-choose32 : tie.Need-cast-choose32
-cast-choose32 c = search needs
-
-choose32-requires : tie.Need-choose32-requires
-choose32-requires c κs = search needs
-
-put-word-requires : tie.Need-put-word-requires
-put-word-requires c κs = search needs
-
-same-length : tie.Need-same-length
-same-length c = search needs
-
 returns : tie.Need-returns
 unfolding manyText
 returns c =
@@ -35,12 +14,5 @@ returns c =
 pub put-many-spec : {M : Type 1} → statement M
 put-many-spec =
     tie.close
-    (tie.spec
-    less-requires
-    put-number-requires
-    slice-aggregate-put-word
-    cast-choose32
-    choose32-requires
-    put-word-requires
-    same-length
-    returns)
+    (tie.spec (λ c κs. search needs) (λ c κs. search needs) (λ c. search needs) (λ c. search needs) (λ c κs. search needs)
+    (λ c κs. search needs) (λ c. search needs) returns)

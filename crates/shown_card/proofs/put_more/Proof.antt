@@ -9,24 +9,6 @@ returns : tie.Need-returns
 unfolding moreText typed
 returns c = rw (le-leb _ _ (c .if1 .taken))
 
-slice-aggregate-put-text : tie.Need-slice-aggregate-put-text
-slice-aggregate-put-text c = search needs
-
-put-text-requires : tie.Need-put-text-requires
-put-text-requires c κs = search needs
-
-put-many-requires : tie.Need-put-many-requires
-put-many-requires c κs = search needs
-
-slice-aggregate-put-text-2 : tie.Need-slice-aggregate-put-text-2
-slice-aggregate-put-text-2 c = search needs
-
-put-text-requires-2 : tie.Need-put-text-requires-2
-put-text-requires-2 c κs = search needs
-
-same-length : tie.Need-same-length
-same-length c = search needs
-
 returns-2 : tie.Need-returns-2
 unfolding moreText
 returns-2 c =
@@ -38,12 +20,5 @@ returns-2 c =
 pub put-more-spec : {M : Type 1} → statement M
 put-more-spec =
     tie.close
-    (tie.spec
-    returns
-    slice-aggregate-put-text
-    put-text-requires
-    put-many-requires
-    slice-aggregate-put-text-2
-    put-text-requires-2
-    same-length
-    returns-2)
+    (tie.spec returns (λ c. search needs) (λ c κs. search needs) (λ c κs. search needs) (λ c. search needs)
+    (λ c κs. search needs) (λ c. search needs) returns-2)

@@ -1,0 +1,19 @@
+use borrow.Author.Needs.{needs}
+use Rattle.text.specs.Typing.{then-typed}
+use Rattle.refused_card.specs.Refused.{lengthFound}
+use Rattle.refused_card.proofs.put_length_found.Statement.{statement}
+use Rattle.refused_card.proofs.put_length_found.Tie as tie
+
+returns : tie.Need-returns
+unfolding lengthFound
+returns c =
+    let two = c .before .before in
+    let one = two .before .before .before .before .before .before .before in
+    then-typed _ _ _ (rw (one .before .word-at .ensures) at (one .put-labelled .ensures)) (rw (two .before .length-of .ensures, two .before .before .byte-at .ensures) at (two .put-labelled2 .ensures))
+
+pub put-length-found-spec : {M : Type 1} → statement M
+put-length-found-spec =
+    tie.close
+    (tie.spec (λ c. search needs) (λ c κs. search needs) (λ c. search needs) (λ c κs. search needs)
+    (λ c. search needs) (λ c κs. search needs) (λ c κs. search needs) (λ c κs. search needs) (λ c. search needs)
+    returns)
