@@ -15,7 +15,6 @@ use Rattle.desk.specs.declared.state.Desk.{Desk}
 use Rattle.desk.specs.Clock.{sameMode, deskOlder}
 use Rattle.session.specs.declared.Sample.{Sample}
 use Rattle.session.specs.declared.Session.{Session}
-use Rattle.session.specs.declared.Sampled.{Sampled}
 use Rattle.session.specs.declared.Outcome.{Outcome}
 use Rattle.session.specs.declared.Outcome.the-variants.{Refused}
 use Rattle.session.specs.Types.{typeSpeed}
@@ -29,15 +28,11 @@ use Rattle.demands.proofs.Kept.{calm, stays-calm, calm-after}
 use Rattle.demands.proofs.Later.{later, AllSilent, all-silent, Entry, momentary, AllQuiet, all-fresh, all-stay}
 use Rattle.demands.proofs.Apart.{reminder-same, RemindsAlike, step-alike}
 
--- the session after a sample that is run, and its answer
-abbrev run : Session → Sample → Sampled
-run s x = ranOf (carried s x) s
-
 -- ---- the functions and the desks on which they have not been looked at
 
 -- a reminder whose settings are not looked at, off or due and not yet lit, stays so where its first lighting does not come
 calm-stays : (s : Session) (t : Settings) (x : Sample) → reminderDiffers (s .settings) t ≡ true → calm (s .desk .reminder .phase) ≡ true
-    → meetsReminder s x ≡ false → calm (run s x .session .desk .reminder .phase) ≡ true
+    → meetsReminder s x ≡ false → calm (ranOf s x .session .desk .reminder .phase) ≡ true
 unfolding meetsReminder ranOf
 calm-stays s t x o quiet dark = calm-after (s .settings) (typeSpeed (s .train) * 100) (carried s x) (s .desk) quiet dark
 
@@ -92,7 +87,7 @@ module _ (t : Settings) where
             let e = reminder-same (reminds (s .functions)) (reminds (t .functions)) (s .x) (s .y) (t .x) (t .y) (reminder-zero (settings-only s (both .0))) (reminder-zero (settings-only (later s t) (both .1))) o in
             rw (e .0, e .1, e .2)
 
-    ran-alike : run (beside u) x ≡ record { session = beside (run u x .session); outcome = run u x .outcome }
+    ran-alike : ranOf (beside u) x ≡ record { session = beside (ranOf u x .session); outcome = ranOf u x .outcome }
     unfolding ranOf meetsZone
     ran-alike =
         let top : ℕ = typeSpeed (u .train) * 100 in
@@ -110,12 +105,12 @@ module _ (t : Settings) where
       take (silentFor u (beside u .settings) xs) (outcomes u xs) ≡ take (silentFor u (beside u .settings) xs) (outcomes (beside u) xs)
 
   -- a sample leaves the settings as they are: what is so of every session is so of the one after it, beside the same settings
-  alike-after : (u : Session) (x : Sample) (xs : List Sample) → BothInside u → AllQuiet entries (u .settings) t (run u x .session .desk)
+  alike-after : (u : Session) (x : Sample) (xs : List Sample) → BothInside u → AllQuiet entries (u .settings) t (ranOf u x .session .desk)
       → ((v : Session) → BothInside v → Quiet v → AlikeFor v xs)
-      → (let k = silentFor (run u x .session) (beside u .settings) xs in
-      take k (outcomes (run u x .session) xs) ≡ take k (outcomes (beside (run u x .session)) xs))
+      → (let k = silentFor (ranOf u x .session) (beside u .settings) xs in
+      take k (outcomes (ranOf u x .session) xs) ≡ take k (outcomes (beside (ranOf u x .session)) xs))
   unfolding ranOf
-  alike-after u x xs both quiet every = every (run u x .session) both quiet
+  alike-after u x xs both quiet every = every (ranOf u x .session) both quiet
 
   alike : (u : Session) (xs : List Sample) → BothInside u → Quiet u → AlikeFor u xs
   unfolding silentFor outcomes
@@ -133,7 +128,7 @@ module _ (t : Settings) where
       cases true e false o ih =
           let silent = spoken u x o in
           rw (accepted-runs u x e, accepted-runs (beside u) x (rw (refusal-alike u x both) e), ran-alike u x both quiet silent)
-          (ap (λ (l : List Outcome). run u x .outcome ∷ l) (alike-after u x xs both (all-stay entries u t x quiet silent) ih))
+          (ap (λ (l : List Outcome). ranOf u x .outcome ∷ l) (alike-after u x xs both (all-stay entries u t x quiet silent) ih))
       cases false e k o ih =
           rw (refused-stays u x e, refused-stays (beside u) x (rw (refusal-alike u x both) e), refusal-alike u x both)
           (ap (λ (l : List Outcome). Refused (Number (refusedBy u x)) ∷ l) (ih u both quiet))

@@ -9,7 +9,7 @@ use Rattle.card.specs.declared.Settings.{Settings}
 use Rattle.step.specs.declared.Answer.{Answer as Told}
 use Rattle.session.specs.declared.Sample.{Sample}
 use Rattle.session.specs.declared.Session.{Session}
-use Rattle.session.specs.Session.{freshSession, openSession, carried, ranOf, sampleOf, outcomeOf}
+use Rattle.session.specs.Session.{freshSession, openSession, ranOf, sampleOf, outcomeOf}
 use Rattle.session.specs.Runs.{accepted, outcomes}
 use Rattle.session.proofs.Runs.{accepted-runs, refused-stays}
 use Rattle.rides.specs.Recording.{goodRecording, RecordingMet, samplesIn, trainOf, samplesOf}
@@ -34,7 +34,7 @@ shown-is s (x ∷ xs) = cases (accepted s x) refl (λ t. shown-is t xs)
     cases : (t : Bool) → accepted s x ≡ t → ((u : Session) → ShownAs u xs (shown u xs))
         → ShownAs s (x ∷ xs) (untilRefused (outcomeOf (sampleOf s x .outcome) ∷ map outcomeOf (outcomes (sampleOf s x .session) xs)))
     cases true e rest =
-        rw (accepted-runs s x e) (paper.ShownAs.answered (samples-exactly s x _ .0 (accepted-runs s x e)) (rest (ranOf (carried s x) s .session)))
+        rw (accepted-runs s x e) (paper.ShownAs.answered (samples-exactly s x _ .0 (accepted-runs s x e)) (rest (ranOf s x .session)))
     cases false e rest = rw (refused-stays s x e) (paper.ShownAs.ended (samples-exactly s x _ .0 (refused-stays s x e)))
 
 shown-only : (s : Session) (xs : List Sample) (l : List (Answer Told)) → ShownAs s xs l → shown s xs ≡ l

@@ -15,7 +15,7 @@ use Rattle.desk.specs.Clock.{sameMode}
 use Rattle.session.specs.declared.Sample.{Sample}
 use Rattle.session.specs.declared.Session.{Session}
 use Rattle.session.specs.declared.Outcome.the-variants.{Refused}
-use Rattle.session.specs.Session.{insideOf, standstill, inBts, sampleChecks, refusedBy, carried, ranOf, sampleOf}
+use Rattle.session.specs.Session.{insideOf, standstill, inBts, sampleChecks, refusedBy, ranOf, sampleOf}
 use Rattle.laws.specs.Ranges.{Inside}
 use Rattle.laws.specs.Refusals.{CodesMet, ModeMet, Accepted, RefusalLaws}
 use Rattle.laws.proofs.Ranges.{inside-only, inside-when}
@@ -221,7 +221,7 @@ module _ (s : Session) (x : Sample) where
   unfolding sampleOf
   refused-as n h z = rw (h, ne-eqb n 0 z)
 
-  accepted-as : refusedBy s x ≡ 0 → sampleOf s x ≡ ranOf (carried s x) s
+  accepted-as : refusedBy s x ≡ 0 → sampleOf s x ≡ ranOf s x
   unfolding sampleOf
   accepted-as h = rw h
 

@@ -5,10 +5,10 @@ use Rattle.leaf.specs.declared.Refusal.the-variants.{Number}
 use Rattle.session.specs.declared.Sample.{Sample}
 use Rattle.session.specs.declared.Session.{Session}
 use Rattle.session.specs.declared.Outcome.the-variants.{Refused}
-use Rattle.session.specs.Session.{refusedBy, carried, ranOf, sampleOf}
+use Rattle.session.specs.Session.{refusedBy, ranOf, sampleOf}
 use Rattle.session.specs.Runs.{accepted}
 
-pub accepted-runs : (s : Session) (x : Sample) → accepted s x ≡ true → sampleOf s x ≡ ranOf (carried s x) s
+pub accepted-runs : (s : Session) (x : Sample) → accepted s x ≡ true → sampleOf s x ≡ ranOf s x
 unfolding sampleOf
 accepted-runs s x h = rw h
 

@@ -113,13 +113,14 @@ sampledAs s e = record { session = withDesk (e .desk) s; outcome = outcome.Answe
 abbrev pub stepped : Session → Input → Stepped
 stepped s x = stepOf (s .settings) (typeSpeed (s .train) * 100) x (s .desk)
 
-unfoldable pub ranOf : Input → Session → Sampled
-ranOf x s = sampledAs s (stepped s x)
+-- a sample that is run
+unfoldable pub ranOf : Session → Sample → Sampled
+ranOf s x = sampledAs s (stepped s (carried s x))
 
 -- "A refusal returns its number .. and leaves .. the handed-in session unchanged."
 unfoldable pub sampleOf : Session → Sample → Sampled
 sampleOf s x =
-    pick (eqb (refusedBy s x) 0) (ranOf (carried s x) s) (record { session = s; outcome = outcome.Refused (Number (refusedBy s x)) })
+    pick (eqb (refusedBy s x) 0) (ranOf s x) (record { session = s; outcome = outcome.Refused (Number (refusedBy s x)) })
 
 -- ---- the same on paper
 
