@@ -95,8 +95,8 @@ module _ (s : Settings) (top : ℕ) (x : Input) (d : Desk)
       record {
         changed = λ e. refl;
         advanced = advanced-calm;
-        main-closed = λ e left o h n. n;
-        side-closed = λ e left o h n. n;
+        main-closed = λ e h. h;
+        side-closed = λ e h. h;
         option = λ e h. h;
         removed = λ e h. h;
         answered = λ e h. press-calm (e .reminder .phase) h;

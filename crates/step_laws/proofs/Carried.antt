@@ -48,8 +48,8 @@ module _ (s : Settings) (top : ℕ) (x : Input) (d : Desk) where
       record {
         changed = λ e. (refl, refl, refl);
         advanced = λ e. (same-is (d .bts) (x .bts) e, refl, refl);
-        main-closed = λ e left o h n. n;
-        side-closed = λ e left o h n. n;
+        main-closed = λ e h. h;
+        side-closed = λ e h. h;
         option = λ e h. h;
         removed = λ e h. h;
         answered = λ e h. h;
