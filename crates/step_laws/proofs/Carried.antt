@@ -2,12 +2,16 @@
 use Prim.Native.Nat.{ℕ}
 use mathlib.Core.Path.{_≡_, refl, sym}
 use mathlib.Core.Bool.{Bool, true, false}
+use Rattle.leaf.specs.Choosing.{pick}
 use Rattle.card.specs.declared.Settings.{Settings}
+use Rattle.signals.specs.declared.control.MainKind.the-variants.{Announcement}
+use Rattle.signals.specs.Windows.{asksOf}
+use Rattle.signals.specs.MainControl.{nearOf}
 use Rattle.desk.specs.declared.state.Desk.{Desk}
-use Rattle.desk.specs.State.{takenOver, crossingSet, limitNow, modeChanged}
-use Rattle.desk.specs.Clock.{sameMode, deskOlder, reminded}
+use Rattle.desk.specs.State.{withCode, takenOver, crossingSet, limitNow, modeChanged}
+use Rattle.desk.specs.Clock.{sameMode, deskOlder, reminded, mainCounts}
 use Rattle.buttons.specs.Buttons.{optionUsed, limitRemoved, reminderAnswered, overrideArmed, stopIncreased, limitStepped, hidePressed}
-use Rattle.beacons.specs.Beacons.{mainOpened, sideOpened, optionOffered, reading4, stopped}
+use Rattle.beacons.specs.Beacons.{mainOpened, sideOpened, optionOffered, reading4, zoneMet, stopped}
 use Rattle.step.specs.declared.Input.{Input}
 use Rattle.step.specs.Speed.{crossingTurned}
 use Rattle.step.specs.Brake.{braked}
@@ -24,6 +28,17 @@ same-is false false h = refl
 pub same-mode : (a b : Bool) → a ≡ b → sameMode a b ≡ true
 same-mode true b e = rw (← e)
 same-mode false b e = rw (← e)
+
+-- the code that the desk keeps is no part of the stop-zone rule
+pub zone-code : (code : ℕ) (d : Desk) → zoneMet (withCode code d) ≡ zoneMet d
+unfolding zoneMet mainCounts takenOver
+zone-code code d = cases (asksOf (d .window .waits))
+  where
+    cases : (t : Bool)
+        → nearOf (pick t (takenOver Announcement (d .window .age) (d .window .distance) (withCode code d)) (withCode code d) .main)
+        ≡ nearOf (pick t (takenOver Announcement (d .window .age) (d .window .distance) d) d .main)
+    cases true = refl
+    cases false = refl
 
 module _ (s : Settings) (top : ℕ) (x : Input) (d : Desk) where
   -- the sample's mode, this code, and the brake as it was
