@@ -17,7 +17,7 @@ use Rattle.step.specs.Speed.{crossingTurned}
 use Rattle.step.specs.Brake.{braked}
 use Rattle.step.specs.Step.{movedOf, judgedOf, stepOf}
 use Rattle.step_laws.specs.Walk.{atBeacon, Sets, ToBeacon, OfBeacon, CarriedLaws}
-use Rattle.step_laws.proofs.Walk.{AnyReading, at-beacon, after-beacon}
+use Rattle.step_laws.proofs.Walk.{AnyReading, sets-any, at-beacon, after-beacon}
 
 pub same-is : (a b : Bool) → sameMode a b ≡ true → a ≡ b
 same-is true true h = refl
@@ -47,15 +47,7 @@ module _ (s : Settings) (top : ℕ) (x : Input) (d : Desk) where
 
   sets-carry : (code : ℕ) → Sets (Carries code) AnyReading
   unfolding takenOver crossingSet limitNow
-  sets-carry code =
-      record {
-        now = tt;
-        main-reading = λ e h. tt;
-        side-reading = λ e h. tt;
-        taken = λ kind age distance e r h. h;
-        crossing = λ age distance e r h. h;
-        limit = λ age distance e r h. h;
-      }
+  sets-carry code = sets-any (λ kind age distance e h. h) (λ age distance e h. h) (λ age e h. h)
 
   to-beacon-carry : ToBeacon s top x d (Carries (d .code))
   unfolding modeChanged deskOlder reminded optionUsed limitRemoved reminderAnswered overrideArmed stopIncreased limitStepped hidePressed

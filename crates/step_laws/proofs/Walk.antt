@@ -17,7 +17,7 @@ use Rattle.signals.specs.declared.control.MainKind.the-variants as main
 use Rattle.signals.specs.Windows.{isOpen, asksOf}
 use Rattle.desk.specs.declared.state.Desk.{Desk}
 use Rattle.desk.specs.declared.clock.Turn.{Turn}
-use Rattle.desk.specs.State.{withCode, modeChanged}
+use Rattle.desk.specs.State.{withCode, takenOver, crossingSet, limitNow, modeChanged}
 use Rattle.desk.specs.Clock.{sameMode, reminded, mainCounts, sideCounts, mainMissed, sideMissed, advanced, begun}
 use Rattle.buttons.specs.Buttons.{chosen, answeredBy, mainAnswered, sideAnswered, pressed, optionUsed, limitRemoved, reminderAnswered, overrideArmed, stopIncreased, limitStepped, crossingPressed, limitPressed, overridePressed, increasePressed, hidePressed, windowPresses, allPresses, pressesOf}
 use Rattle.beacons.specs.Beacons.{reading1, readingRow, optionOffered, reading3, reading4, zoneOr, zoneMet, reading7, reading8, reading9, readingLimit, readingOf, readIf, beaconTaken}
@@ -29,6 +29,19 @@ use Rattle.step_laws.proofs.Choosing.{pick-by, pick-has, step-has}
 -- any age, any distance: where P does not speak of readings
 abbrev pub AnyReading : ℕ → ℕ → Type 0
 AnyReading age distance = Unit {0}
+
+-- what is set keeps a P that speaks of no reading, where it is kept whatever age and distance are
+pub sets-any : {P : Desk → Type 0} → ((kind : MainKind) (age distance : ℕ) (e : Desk) → P e → P (takenOver kind age distance e))
+    → ((age distance : ℕ) (e : Desk) → P e → P (crossingSet age distance e)) → ((age : ℕ) (e : Desk) → P e → P (limitNow age e)) → Sets P AnyReading
+sets-any taken crossing limit =
+    record {
+      now = tt;
+      main-reading = λ e h. tt;
+      side-reading = λ e h. tt;
+      taken = λ kind age distance e r h. taken kind age distance e h;
+      crossing = λ age distance e r h. crossing age distance e h;
+      limit = λ age distance e r h. limit age e h;
+    }
 
 -- ---- what is set
 
