@@ -13,13 +13,13 @@ use Rattle.leaf.specs.Answers.{Answer, given, refused, refusedAt}
 use Rattle.card.specs.declared.Settings.{Settings}
 use Rattle.card.specs.Card.{baseKind, rowAt}
 use Rattle.card.specs.Ranges.{checksOf, settingsFault, faultOf}
-use Rattle.card.specs.Plain.{FirstOut, SettingsMet}
+use Rattle.card.specs.Plain.{FirstOut}
 use Rattle.card.specs.Reading.{functionsFrom, settingsFrom, settingsOf, cardChecks, answerBy, readCard}
 use Rattle.card.specs.Writing.{recordChecks, writeCard}
 use Rattle.card.specs.Laws.{placed-by, numbered-by}
 use Rattle.card.specs.CardA.{card-A, cardA-at}
-use Rattle.card.proofs.InRange.{base-placed, out-some, met-fault}
-use Rattle.card.proofs.Exactly.{out-fault, card-settings}
+use Rattle.card.proofs.InRange.{base-placed, out-some}
+use Rattle.card.proofs.Exactly.{met-fault, out-fault, card-settings}
 use Rattle.card.proofs.Accepted.{accepted-when, written-when}
 use Rattle.demands.specs.Lazy.{FirstGiven, ReaderFirst, WriterFirst, bare, eager, bareReader, eagerReader, bareWriter, eagerWriter, willingWriter, ReadsExactly, WritesExactly, CardsOut}
 use Rattle.demands.proofs.Answered.{only-one}
@@ -72,10 +72,6 @@ out-first : (v : ℕ) (s : Settings) (at : ℕ) → FirstOut baseKind v s at →
 out-first v s at f =
     let e = out-fault v s at f in
     rw e at (fault-first v s (λ z. out-some baseKind base-placed v s at f (sym e ∙ z)))
-
-fault-none : (v : ℕ) (s : Settings) → SettingsMet v s → faultOf v s ≡ 0
-unfolding faultOf
-fault-none v s m = met-fault baseKind v s m
 
 due : (checks : List Check) → T (numbered checks) → (n m : ℕ) → firstBad 0 checks ≡ n → n ≡ m → (n ≡ 0 → ⊥) → FirstFault m checks
 due checks p n m h e some = rw e at (first-fault checks n p h some)
@@ -139,11 +135,11 @@ cards-out =
       eager-reader-passes = λ area h.
           let v = byte area 2 in
           let s = settingsOf area in
-          eager-first (faultOf v s) (readCard area h) (λ m. fault-none v s (card-settings area h m)) (fault-first v s) (reader area h);
+          eager-first (faultOf v s) (readCard area h) (λ m. met-fault v s (card-settings area h m)) (fault-first v s) (reader area h);
       eager-reader-out = λ x. let e : _≡_ {A = Answer Settings} (refusedAt 5 3) (refused 4) = rw (answers .fault-3, answers .read-4) at (as-ours eagerReader x (card-A 0x26 0x01 79) 1) in never (cc);
       bare-writer-passes = λ v s room. bare-first (writeCard v s room) (write-5 v s room) (writer v s room);
       bare-writer-out = λ x. let e : _≡_ {A = Answer Unit} (refused 5) (refusedAt 5 3) = rw (answers .write-3) at (as-written bareWriter x 1 (cardA-at 79) 39) in never (cc);
-      eager-writer-passes = λ v s room. eager-first (faultOf v s) (writeCard v s room) (λ m. fault-none v s (m .settings)) (fault-first v s) (writer v s room);
+      eager-writer-passes = λ v s room. eager-first (faultOf v s) (writeCard v s room) (λ m. met-fault v s (m .settings)) (fault-first v s) (writer v s room);
       eager-writer-out = λ x. let e : _≡_ {A = Answer Unit} (refusedAt 5 3) (refused 2) = rw (answers .version-3, answers .write-2) at (as-written eagerWriter x 3 (cardA-at 79) 39) in never (cc);
       willing-writer-passes = λ v s room. record { met = λ m. refl; number = λ n e. absurd (never (cc)); place = λ n at e. absurd (never (cc)) };
       willing-writer-out = λ x. let e : _≡_ {A = Answer Unit} (given tt) (refused 2) = rw (answers .write-2) at (as-written willingWriter x 3 (cardA-at 79) 39) in never (cc);

@@ -16,6 +16,7 @@ use Rattle.rides.specs.Recording.{goodRecording, RecordingMet, samplesIn, train
 use Rattle.rides.specs.Ride.{startRide, freshRide, shownBy, untilRefused, shownFrom, wholeRide}
 use Rattle.rides.proofs.Recordings.{good-met, met-good}
 use Rattle.rides.proofs.Runs.{shown-until}
+use Rattle.rides.proofs.Refusals.{starts-good, starts-bad}
 use Rattle.demands.specs.Demand1.{Exactly, OpenedAs, ShownAs, RiddenAs}
 use Rattle.demands.specs.Demand1 as paper
 use Rattle.demands.proofs.Answered.{exactly, openings-exactly, samples-exactly}
@@ -47,12 +48,7 @@ shown-only s (x ∷ xs) l (paper.ShownAs.ended it) = rw (samples-exactly s x _ .
 
 module _ (settings : Settings) (recording : List ℕ) where
   pub good : (n : ℕ) → RecordingMet recording n → startRide settings recording ≡ openSession settings (trainOf recording)
-  unfolding startRide
-  good n m = rw (met-good recording n m .0)
-
-  bad : goodRecording recording ≡ false → startRide settings recording ≡ refused 14
-  unfolding startRide
-  bad e = rw e
+  good n m = starts-good settings recording (met-good recording n m .0)
 
   -- a recording that is none is 14
   pub none-good : ((n : ℕ) → RecordingMet recording n → ⊥) → startRide settings recording ≡ refused 14
@@ -60,7 +56,7 @@ module _ (settings : Settings) (recording : List ℕ) where
     where
       cases : (t : Bool) → goodRecording recording ≡ t → startRide settings recording ≡ refused 14
       cases true e = absurd (none _ (good-met recording e))
-      cases false e = bad e
+      cases false e = starts-bad settings recording e
 
   ridden-is : RiddenAs settings recording (wholeRide settings recording)
   unfolding wholeRide
@@ -80,7 +76,7 @@ module _ (settings : Settings) (recording : List ℕ) where
       cases true e =
           let m = good-met recording e in
           rw (good (samplesIn recording) m) (from (openSession settings (trainOf recording)) (openings-exactly settings (trainOf recording) _ .0 refl) m)
-      cases false e = rw (bad e) (paper.RiddenAs.refused-14 (λ n m. let z = met-good recording n m .0 in let q : _≡_ {A = ℕ} 0 1 = cc in omega arith))
+      cases false e = rw (starts-bad settings recording e) (paper.RiddenAs.refused-14 (λ n m. let z = met-good recording n m .0 in let q : _≡_ {A = ℕ} 0 1 = cc in omega arith))
 
   ridden-only : (a : Answer (List (Answer Told))) → RiddenAs settings recording a → wholeRide settings recording ≡ a
   unfolding wholeRide
