@@ -1,6 +1,6 @@
 -- Document 01, "The sample": the session, its opening, and a sample with its refusals.
 use Prim.Native.Nat.{ℕ, _*_}
-use mathlib.Core.Bool.{Bool, true, false, _&&_, _||_}
+use mathlib.Core.Bool.{Bool, _&&_, _||_}
 use mathlib.Core.List.{List, [], _∷_}
 use lib.Dec.{leb, eqb}
 use Rattle.leaf.specs.Choosing.{pick}
