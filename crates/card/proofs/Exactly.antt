@@ -1,8 +1,8 @@
 -- What reader, writer and the settings' check answer, number and place, exactly when: each ends in one of the ways of specs/Plain.antt,
 -- and each way comes with its answer.
-use Prim.Native.Nat.{ℕ, _≤_, _<_}
+use Prim.Native.Nat.{ℕ, _≤_}
 use native.Mathlib.Omega.{arith}
-use mathlib.Core.Path.{_≡_, refl, sym, _∙_}
+use mathlib.Core.Path.{_≡_, refl, _∙_}
 use mathlib.Core.Bool.{Bool, true, false, not}
 use mathlib.Core.List.{List, [], _∷_}
 use mathlib.Core.Logic.{_↔_}
@@ -12,13 +12,13 @@ use borrow.Author.Tests.{le-leb, lt-leb, leb-true, leb-false, eqb-true, eqb-fals
 use Rattle.leaf.specs.Bytes.{byte, word}
 use Rattle.leaf.specs.Numbers.{within}
 use Rattle.leaf.specs.Checks.{orFault, firstBad}
-use Rattle.leaf.specs.Answers.{Answer, given, refused, refusedAt}
+use Rattle.leaf.specs.Answers.{Answer}
 use Rattle.card.specs.Card.{baseKind, lengthOf, known}
 use Rattle.card.specs.Ranges.{faultOf, checkSettings}
 use Rattle.card.specs.Reading.{settingsOf, answerBy, readCard}
 use Rattle.card.specs.Writing.{writeCard, written}
 use Rattle.card.specs.Plain as plain
-use Rattle.card.specs.Plain.{Within, FirstOut, CheckedAs, SettingsMet, Known, LengthOf, HeaderMet, CardMet, ReadAs, WriteMet, WrittenAs}
+use Rattle.card.specs.Plain.{Within, FirstOut, CheckedAs, SettingsMet, Known, LengthOf, HeaderMet, CardMet, ReadAs, WrittenAs}
 use Rattle.card.specs.declared.Settings.{Settings}
 use Rattle.card.proofs.Listed.{within-met, met-within}
 use Rattle.card.proofs.InRange as ranges

@@ -6,12 +6,12 @@ use mathlib.Core.Path.{_≡_, refl, sym, _∙_}
 use mathlib.Core.Bool.{Bool, true, false}
 use mathlib.Core.Logic.{_↔_}
 use lib.Dec.{T, ltb, eqb, lit≤}
-use borrow.Author.Tests.{ltb-true, ltb-false, eqb-true, eqb-false, eq-eqb, ne-eqb}
+use borrow.Author.Tests.{ltb-true, ltb-false, eqb-true, eqb-false, ne-eqb}
 use Rattle.leaf.specs.Choosing.{pick}
 use Rattle.leaf.specs.Checks.{firstBad, numbered, none-bad, fine-none, all-hold}
-use Rattle.leaf.specs.Answers.{Answer, given, refusedAt, isGiven}
+use Rattle.leaf.specs.Answers.{Answer, refusedAt, isGiven}
 use Rattle.card.specs.Card.{baseKind, reminds}
-use Rattle.card.specs.Ranges.{placeOf, settingsChecks, settingsFault, settingsInside, checkOf, faultOf, inRange, checkSettings}
+use Rattle.card.specs.Ranges.{placeOf, settingsChecks, settingsFault, settingsInside, checkOf, inRange}
 use Rattle.card.specs.Plain.{Setting, Vmax, Tick, Bts, Initial, Last, Drop, Functions, X, Y, OfCard, offset, place, SettingMet, RangesMet, FirstOut, Placed, CheckedAs, out-of-range, in-range}
 use Rattle.card.specs.declared.Kind.{Kind}
 use Rattle.card.specs.declared.Settings.{Settings}

@@ -4,7 +4,6 @@ pub mod Area
 pub mod Exactly
 pub mod Accepted
 pub mod ShutOut
-pub mod Places
 pub mod Determined
 pub mod Buffer
 pub mod RoundTrip

@@ -6,7 +6,7 @@ use mathlib.Core.Path.{_≡_, refl, sym, _∙_}
 use mathlib.Core.List.{List}
 use Rattle.leaf.specs.Bytes.{byte, word}
 use Rattle.leaf.specs.Checks.{orFault}
-use Rattle.leaf.specs.Answers.{Answer, refused, refusedAt}
+use Rattle.leaf.specs.Answers.{refused, refusedAt}
 use Rattle.card.specs.Card.{rowAt}
 use Rattle.card.specs.Ranges.{settingsFault, faultOf}
 use Rattle.card.specs.Reading.{functionsFrom, settingsFrom, answerBy, readCard}

@@ -4,15 +4,13 @@ use Prim.Native.Nat.{ℕ, _≤_, _<_}
 use native.Mathlib.Omega.{arith}
 use mathlib.Core.Path.{_≡_, refl, sym, ap, _∙_}
 use mathlib.Core.List.{List}
-use lib.Dec.{eqb, lit≤}
+use lib.Dec.{lit≤}
 use lib.ListN.{length}
-use borrow.Author.Tests.{le-leb, lt-leb, ne-eqb, eq-eqb}
-use Rattle.leaf.specs.Bytes.{byte, word}
-use Rattle.leaf.specs.Checks.{orFault}
-use Rattle.leaf.specs.Answers.{Answer, refused}
+use Rattle.leaf.specs.Bytes.{byte}
+use Rattle.leaf.specs.Answers.{refused}
 use Rattle.card.specs.Card.{baseKind, Same}
 use Rattle.card.specs.Ranges.{settingsFault, faultOf}
-use Rattle.card.specs.Reading.{functionsFrom, settingsFrom, settingsOf, answerBy, readCard, paperOf}
+use Rattle.card.specs.Reading.{functionsFrom, settingsFrom, settingsOf, readCard, paperOf}
 use Rattle.card.specs.Plain.{Known, HeaderMet, version-above}
 use Rattle.card.specs.declared.Settings.{Settings}
 use Rattle.card.specs.declared.Reading.{Reading}

@@ -13,19 +13,18 @@ use Rattle.card.specs.Card.{protects, zones, reminds, readsInBts}
 use Rattle.signals.specs.declared.control.Main.{Main}
 use Rattle.signals.specs.declared.control.MainKind.{MainKind}
 use Rattle.signals.specs.declared.control.MainKind.the-variants.{Clear, Start, ConditionalClear, Announcement, Preannouncement, Caution, BeforeStop, Stop, Zone}
-use Rattle.signals.specs.Windows.{asksOf}
-use Rattle.signals.specs.MainControl.{nearOf}
 use Rattle.signals.specs.Stop.{remindedOf}
 use Rattle.desk.specs.declared.state.Desk.{Desk}
 use Rattle.desk.specs.declared.clock.Turn.{Turn}
-use Rattle.desk.specs.State.{withCode, takenOver, modeChanged}
-use Rattle.desk.specs.Clock.{sameMode, deskOlder, reminded, mainCounts, advanced, begun}
+use Rattle.desk.specs.State.{withCode, modeChanged}
+use Rattle.desk.specs.Clock.{sameMode, deskOlder, reminded, advanced, begun}
 use Rattle.beacons.specs.Beacons.{isSide, readsOf, zoneMet, reading7, readingOf, readIf, beaconTaken}
 use Rattle.step.specs.declared.Input.{Input}
 use Rattle.step.specs.declared.speed.Standing.{Standing}
 use Rattle.step.specs.Speed.{mainSpeed, none, alwaysAt, btsLimit, mainLimit, limitsBeside, leastOf, supervisedOf, crossingTurned}
 use Rattle.step.specs.Step.{movedOf, answerOf, judgedOf, stepOf}
 use Rattle.step_laws.specs.Walk.{atBeacon, readsAt}
+use Rattle.step_laws.proofs.Carried.{zone-code}
 use Rattle.demands.specs.Speaks.{same}
 use Rattle.demands.proofs.Later.{later, or-false}
 
@@ -110,17 +109,6 @@ read-alike : (reads f0 g0 f1 g1 : Bool) (code : ℕ) (d : Desk) → Apart f0 g0 
 unfolding readIf
 read-alike true f0 g0 f1 g1 code d h0 h1 = bit-0 f0 g0 f1 code d h0 ∙ bit-1 f1 g1 g0 code d h1
 read-alike false f0 g0 f1 g1 code d h0 h1 = refl
-
--- the code that the desk keeps is no part of the stop-zone rule
-zone-code : (code : ℕ) (d : Desk) → zoneMet (withCode code d) ≡ zoneMet d
-unfolding zoneMet mainCounts takenOver
-zone-code code d = cases (asksOf (d .window .waits))
-  where
-    cases : (t : Bool)
-        → nearOf (pick t (takenOver Announcement (d .window .age) (d .window .distance) (withCode code d)) (withCode code d) .main)
-        ≡ nearOf (pick t (takenOver Announcement (d .window .age) (d .window .distance) d) d .main)
-    cases true = refl
-    cases false = refl
 
 beacon-alike : (code : ℕ) (f0 g0 f1 g1 f3 g3 : Bool) (d : Desk) → Apart f0 g0 (eqb code 3 || eqb code 4)
     → Apart f1 g1 (eqb code 7 && readsOf code f3 (d .bts) (d .code) && zoneMet d) → Apart f3 g3 (d .bts && isSide code)

@@ -25,6 +25,7 @@ use Rattle.session.specs.Runs.{outcomes}
 use Rattle.rides.specs.Recording.{trainOf, samplesOf}
 use Rattle.printed.specs.declared.Columns.{Columns}
 use Rattle.printed.specs.Printed.{highest, printedRide}
+use Rattle.printed.proofs.Computes.{card}
 use Rattle.printed.proofs.Silence.{print-silence}
 use Rattle.demands.specs.Runs.{rideOf, firstOf}
 use Rattle.demands.specs.Speaks.{untilSpeaks}
@@ -34,7 +35,7 @@ use Rattle.demands.proofs.Later.{later}
 use Rattle.demands.proofs.Alike.{alike-fresh}
 use Rattle.demands.proofs.Cards.{its-settings, its-range, common, opens, rides-alike}
 use Rattle.demands.proofs.Prints.{prints-alike}
-use Rattle.demands.proofs.Computes.{card, definitions}
+use Rattle.demands.proofs.Computes.{definitions}
 
 -- ---- the demand
 

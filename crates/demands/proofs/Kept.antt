@@ -20,7 +20,7 @@ use Rattle.step.specs.Speed.{crossingTurned}
 use Rattle.step.specs.Brake.{braked}
 use Rattle.step.specs.Step.{judgedOf, stepOf}
 use Rattle.step_laws.specs.Walk.{Sets, ToBeacon, OfBeacon}
-use Rattle.step_laws.proofs.Walk.{AnyReading, at-beacon, after-beacon}
+use Rattle.step_laws.proofs.Walk.{AnyReading, sets-any, at-beacon, after-beacon}
 
 -- a reminder whose settings are not looked at: off, or due and not yet lit
 abbrev pub calm : Phase → Bool
@@ -70,15 +70,7 @@ after-8 false = refl
 
 sets-calm : Sets Calm AnyReading
 unfolding takenOver crossingSet limitNow
-sets-calm =
-    record {
-      now = tt;
-      main-reading = λ e h. tt;
-      side-reading = λ e h. tt;
-      taken = λ kind age distance e r h. refl;
-      crossing = λ age distance e r h. h;
-      limit = λ age distance e r h. h;
-    }
+sets-calm = sets-any (λ kind age distance e h. refl) (λ age distance e h. h) (λ age e h. h)
 
 module _ (s : Settings) (top : ℕ) (x : Input) (d : Desk)
     (quiet : calm (d .reminder .phase) ≡ true)
@@ -95,8 +87,8 @@ module _ (s : Settings) (top : ℕ) (x : Input) (d : Desk)
       record {
         changed = λ e. refl;
         advanced = advanced-calm;
-        main-closed = λ e left o h n. n;
-        side-closed = λ e left o h n. n;
+        main-closed = λ e h. h;
+        side-closed = λ e h. h;
         option = λ e h. h;
         removed = λ e h. h;
         answered = λ e h. press-calm (e .reminder .phase) h;

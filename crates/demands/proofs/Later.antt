@@ -10,7 +10,7 @@ use Rattle.desk.specs.declared.state.Desk.{Desk}
 use Rattle.desk.specs.State.{freshDesk}
 use Rattle.session.specs.declared.Sample.{Sample}
 use Rattle.session.specs.declared.Session.{Session}
-use Rattle.session.specs.Session.{carried, ranOf}
+use Rattle.session.specs.Session.{ranOf}
 use Rattle.demands.specs.Speaks.{Later, someSpeaks}
 
 -- settings with the later functions, and their settings, of others
@@ -60,7 +60,7 @@ pub record Entry : Type 0 where
   pub quiet : Desk → Bool
   pub fresh : quiet freshDesk ≡ true
   pub stays : (s : Session) (t : Settings) (x : Sample) → function .differs (s .settings) t ≡ true → quiet (s .desk) ≡ true
-      → function .speaks s x ≡ false → quiet (ranOf (carried s x) s .session .desk) ≡ true
+      → function .speaks s x ≡ false → quiet (ranOf s x .session .desk) ≡ true
 
 -- one that is looked at only where it speaks, and leaves nothing that is looked at later
 abbrev pub momentary : Later → Entry
@@ -79,6 +79,6 @@ all-fresh [] s t = tt
 all-fresh (e ∷ rest) s t = (λ o. e .fresh, all-fresh rest s t)
 
 pub all-stay : (es : List Entry) (s : Session) (t : Settings) (x : Sample) → AllQuiet es (s .settings) t (s .desk) → AllSilent (functionsIn es) s t x
-    → AllQuiet es (s .settings) t (ranOf (carried s x) s .session .desk)
+    → AllQuiet es (s .settings) t (ranOf s x .session .desk)
 all-stay [] s t x quiet silent = tt
 all-stay (e ∷ rest) s t x quiet silent = (λ o. e .stays s t x o (quiet .0 o) (rw o at (silent .0)), all-stay rest s t x (quiet .1) (silent .1))

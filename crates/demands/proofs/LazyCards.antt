@@ -3,7 +3,7 @@ use Prim.Native.Nat.{ℕ}
 use native.Mathlib.Omega.{arith}
 use mathlib.Core.Bool.{Bool, true, false}
 use mathlib.Core.List.{List}
-use mathlib.Core.Path.{_≡_, refl, _∙_}
+use mathlib.Core.Path.{_≡_, refl, sym, _∙_}
 use lib.Dec.{T, eqb}
 use borrow.Author.Tests.{eqb-false}
 use Rattle.leaf.specs.Choosing.{pick}
@@ -13,18 +13,18 @@ use Rattle.leaf.specs.Answers.{Answer, given, refused, refusedAt}
 use Rattle.card.specs.declared.Settings.{Settings}
 use Rattle.card.specs.Card.{baseKind, rowAt}
 use Rattle.card.specs.Ranges.{checksOf, settingsFault, faultOf}
-use Rattle.card.specs.Plain.{SettingsMet}
+use Rattle.card.specs.Plain.{FirstOut}
 use Rattle.card.specs.Reading.{functionsFrom, settingsFrom, settingsOf, cardChecks, answerBy, readCard}
 use Rattle.card.specs.Writing.{recordChecks, writeCard}
-use Rattle.card.specs.Laws.{placed-by}
+use Rattle.card.specs.Laws.{placed-by, numbered-by}
 use Rattle.card.specs.CardA.{card-A, cardA-at}
-use Rattle.card.proofs.InRange.{met-fault}
-use Rattle.card.proofs.Exactly.{card-settings}
+use Rattle.card.proofs.InRange.{base-placed, out-some}
+use Rattle.card.proofs.Exactly.{met-fault, out-fault, card-settings}
 use Rattle.card.proofs.Accepted.{accepted-when, written-when}
-use Rattle.card.proofs.Places.{read-place, read-number, write-place, write-number}
 use Rattle.demands.specs.Lazy.{FirstGiven, ReaderFirst, WriterFirst, bare, eager, bareReader, eagerReader, bareWriter, eagerWriter, willingWriter, ReadsExactly, WritesExactly, CardsOut}
 use Rattle.demands.proofs.Answered.{only-one}
 use Rattle.demands.proofs.Demand1.{demand-1}
+use Rattle.demands.proofs.ShutOut.{shut-out}
 
 -- what `cc` makes of two answers of different kinds
 never : _≡_ {A = ℕ} 0 1 → ⊥
@@ -62,30 +62,45 @@ module _ {A : Type 0} {Met : Type 0} {a : A} {checks places : List Check} where
 
 -- ---- ours is such an answer, and 5 is among its numbers where it gives a place
 
+-- a fault that is found is the first check that fails
 fault-first : (v : ℕ) (s : Settings) → (faultOf v s ≡ 0 → ⊥) → FirstFault (faultOf v s) (checksOf v s)
 unfolding faultOf settingsFault
 fault-first v s z = first-fault (checksOf v s) (faultOf v s) tt refl z
 
-fault-none : (v : ℕ) (s : Settings) → SettingsMet v s → faultOf v s ≡ 0
-unfolding faultOf
-fault-none v s m = met-fault baseKind v s m
+-- so is that of the first setting out of range
+out-first : (v : ℕ) (s : Settings) (at : ℕ) → FirstOut baseKind v s at → FirstFault at (checksOf v s)
+out-first v s at f =
+    let e = out-fault v s at f in
+    rw e at (fault-first v s (λ z. out-some baseKind base-placed v s at f (sym e ∙ z)))
+
+due : (checks : List Check) → T (numbered checks) → (n m : ℕ) → firstBad 0 checks ≡ n → n ≡ m → (n ≡ 0 → ⊥) → FirstFault m checks
+due checks p n m h e some = rw e at (first-fault checks n p h some)
 
 reader : ReaderFirst readCard
-reader area h = record { met = accepted-when area h; number = read-number area h; place = read-place area h }
+unfolding readCard
+reader area h =
+    record {
+      met = accepted-when area h;
+      number = λ n e. let p = numbered-by _ _ _ _ e in due (cardChecks area h) tt _ n refl (p .0) (p .1);
+      place = λ n at e. let p = shut-out .not-invented-read area h n at e in (p .0, out-first (byte area 2) (settingsOf area) at (p .1));
+    }
 
 writer : WriterFirst writeCard
-writer v s room = record { met = written-when v s room; number = write-number v s room; place = write-place v s room }
-
-due-5 : (checks : List Check) → T (numbered checks) → firstBad 0 checks ≡ 5 → (n : ℕ) → n ≡ 5 → FirstFault n checks
-due-5 checks p h n e = rw e (first-fault checks 5 p h (λ z. omega arith))
+unfolding writeCard
+writer v s room =
+    record {
+      met = written-when v s room;
+      number = λ n e. let p = numbered-by _ _ _ _ e in due (recordChecks v s room) tt _ n refl (p .0) (p .1);
+      place = λ n at e. let p = shut-out .not-invented-write v s room n at e in (p .0, out-first v s at (p .1));
+    }
 
 read-5 : (area : List ℕ) (h n at : ℕ) → readCard area h ≡ refusedAt n at → FirstFault n (cardChecks area h)
 unfolding readCard
-read-5 area h n at e = let p = placed-by _ _ _ _ _ e in due-5 (cardChecks area h) tt (p .0) n (p .1)
+read-5 area h n at e = let p = placed-by _ _ _ _ _ e in due (cardChecks area h) tt 5 n (p .0) (sym (p .1)) (λ z. omega arith)
 
 write-5 : (v : ℕ) (s : Settings) (room n at : ℕ) → writeCard v s room ≡ refusedAt n at → FirstFault n (recordChecks v s room)
 unfolding writeCard
-write-5 v s room n at e = let p = placed-by _ _ _ _ _ e in due-5 (recordChecks v s room) tt (p .0) n (p .1)
+write-5 v s room n at e = let p = placed-by _ _ _ _ _ e in due (recordChecks v s room) tt 5 n (p .0) (sym (p .1)) (λ z. omega arith)
 
 -- ---- what ours answers where they do not
 
@@ -120,11 +135,11 @@ cards-out =
       eager-reader-passes = λ area h.
           let v = byte area 2 in
           let s = settingsOf area in
-          eager-first (faultOf v s) (readCard area h) (λ m. fault-none v s (card-settings area h m)) (fault-first v s) (reader area h);
+          eager-first (faultOf v s) (readCard area h) (λ m. met-fault v s (card-settings area h m)) (fault-first v s) (reader area h);
       eager-reader-out = λ x. let e : _≡_ {A = Answer Settings} (refusedAt 5 3) (refused 4) = rw (answers .fault-3, answers .read-4) at (as-ours eagerReader x (card-A 0x26 0x01 79) 1) in never (cc);
       bare-writer-passes = λ v s room. bare-first (writeCard v s room) (write-5 v s room) (writer v s room);
       bare-writer-out = λ x. let e : _≡_ {A = Answer Unit} (refused 5) (refusedAt 5 3) = rw (answers .write-3) at (as-written bareWriter x 1 (cardA-at 79) 39) in never (cc);
-      eager-writer-passes = λ v s room. eager-first (faultOf v s) (writeCard v s room) (λ m. fault-none v s (m .settings)) (fault-first v s) (writer v s room);
+      eager-writer-passes = λ v s room. eager-first (faultOf v s) (writeCard v s room) (λ m. met-fault v s (m .settings)) (fault-first v s) (writer v s room);
       eager-writer-out = λ x. let e : _≡_ {A = Answer Unit} (refusedAt 5 3) (refused 2) = rw (answers .version-3, answers .write-2) at (as-written eagerWriter x 3 (cardA-at 79) 39) in never (cc);
       willing-writer-passes = λ v s room. record { met = λ m. refl; number = λ n e. absurd (never (cc)); place = λ n at e. absurd (never (cc)) };
       willing-writer-out = λ x. let e : _≡_ {A = Answer Unit} (given tt) (refused 2) = rw (answers .write-2) at (as-written willingWriter x 3 (cardA-at 79) 39) in never (cc);

@@ -9,45 +9,34 @@ use Rattle.card.specs.declared.Settings.{Settings}
 use Rattle.step.specs.declared.Answer.{Answer as Told}
 use Rattle.session.specs.declared.Sample.{Sample}
 use Rattle.session.specs.declared.Session.{Session}
-use Rattle.session.specs.declared.Sampled.{Sampled}
-use Rattle.session.specs.declared.Outcome.the-variants.{Answered}
-use Rattle.session.specs.Session.{freshSession, openSession, refusedBy, carried, stepped, ranOf, sampleOf, outcomeOf}
+use Rattle.session.specs.Session.{freshSession, openSession, ranOf, sampleOf, outcomeOf}
 use Rattle.session.specs.Runs.{accepted, outcomes}
+use Rattle.session.proofs.Runs.{accepted-runs, refused-stays}
 use Rattle.rides.specs.Recording.{goodRecording, RecordingMet, samplesIn, trainOf, samplesOf}
 use Rattle.rides.specs.Ride.{startRide, freshRide, shownBy, untilRefused, shownFrom, wholeRide}
 use Rattle.rides.proofs.Recordings.{good-met, met-good}
 use Rattle.rides.proofs.Runs.{shown-until}
-use Rattle.demands.specs.Demand1.{Exactly, OpenedAs, refusalBy, ShownAs, RiddenAs}
+use Rattle.rides.proofs.Refusals.{starts-good, starts-bad}
+use Rattle.demands.specs.Demand1.{Exactly, OpenedAs, ShownAs, RiddenAs}
 use Rattle.demands.specs.Demand1 as paper
 use Rattle.demands.proofs.Answered.{exactly, openings-exactly, samples-exactly}
 
 -- ---- its samples
-
--- a sample is answered, or refused by a number
-abbrev ran : Session → Sample → Sampled
-ran s x = record { session = record { settings = s .settings; train = s .train; desk = stepped s (carried s x) .desk }; outcome = Answered (stepped s (carried s x) .answer) }
-
-runs : (s : Session) (x : Sample) → accepted s x ≡ true → sampleOf s x ≡ ran s x
-unfolding sampleOf ranOf
-runs s x e = rw e
-
-refuses : (s : Session) (x : Sample) → accepted s x ≡ false → sampleOf s x ≡ refusalBy (refusedBy s x) s
-unfolding sampleOf
-refuses s x e = rw e
 
 -- what the session answers up to the first refusal
 abbrev shown : Session → List Sample → List (Answer Told)
 shown s xs = untilRefused (map outcomeOf (outcomes s xs))
 
 shown-is : (s : Session) (xs : List Sample) → ShownAs s xs (shown s xs)
-unfolding outcomes untilRefused
+unfolding ranOf outcomes untilRefused
 shown-is s [] = paper.ShownAs.none
 shown-is s (x ∷ xs) = cases (accepted s x) refl (λ t. shown-is t xs)
   where
     cases : (t : Bool) → accepted s x ≡ t → ((u : Session) → ShownAs u xs (shown u xs))
         → ShownAs s (x ∷ xs) (untilRefused (outcomeOf (sampleOf s x .outcome) ∷ map outcomeOf (outcomes (sampleOf s x .session) xs)))
-    cases true e rest = rw (runs s x e) (paper.ShownAs.answered (samples-exactly s x _ .0 (runs s x e)) (rest (ran s x .session)))
-    cases false e rest = rw (refuses s x e) (paper.ShownAs.ended (samples-exactly s x _ .0 (refuses s x e)))
+    cases true e rest =
+        rw (accepted-runs s x e) (paper.ShownAs.answered (samples-exactly s x _ .0 (accepted-runs s x e)) (rest (ranOf s x .session)))
+    cases false e rest = rw (refused-stays s x e) (paper.ShownAs.ended (samples-exactly s x _ .0 (refused-stays s x e)))
 
 shown-only : (s : Session) (xs : List Sample) (l : List (Answer Told)) → ShownAs s xs l → shown s xs ≡ l
 unfolding outcomes untilRefused
@@ -59,12 +48,7 @@ shown-only s (x ∷ xs) l (paper.ShownAs.ended it) = rw (samples-exactly s x _ .
 
 module _ (settings : Settings) (recording : List ℕ) where
   pub good : (n : ℕ) → RecordingMet recording n → startRide settings recording ≡ openSession settings (trainOf recording)
-  unfolding startRide
-  good n m = rw (met-good recording n m .0)
-
-  bad : goodRecording recording ≡ false → startRide settings recording ≡ refused 14
-  unfolding startRide
-  bad e = rw e
+  good n m = starts-good settings recording (met-good recording n m .0)
 
   -- a recording that is none is 14
   pub none-good : ((n : ℕ) → RecordingMet recording n → ⊥) → startRide settings recording ≡ refused 14
@@ -72,7 +56,7 @@ module _ (settings : Settings) (recording : List ℕ) where
     where
       cases : (t : Bool) → goodRecording recording ≡ t → startRide settings recording ≡ refused 14
       cases true e = absurd (none _ (good-met recording e))
-      cases false e = bad e
+      cases false e = starts-bad settings recording e
 
   ridden-is : RiddenAs settings recording (wholeRide settings recording)
   unfolding wholeRide
@@ -92,7 +76,7 @@ module _ (settings : Settings) (recording : List ℕ) where
       cases true e =
           let m = good-met recording e in
           rw (good (samplesIn recording) m) (from (openSession settings (trainOf recording)) (openings-exactly settings (trainOf recording) _ .0 refl) m)
-      cases false e = rw (bad e) (paper.RiddenAs.refused-14 (λ n m. let z = met-good recording n m .0 in let q : _≡_ {A = ℕ} 0 1 = cc in omega arith))
+      cases false e = rw (starts-bad settings recording e) (paper.RiddenAs.refused-14 (λ n m. let z = met-good recording n m .0 in let q : _≡_ {A = ℕ} 0 1 = cc in omega arith))
 
   ridden-only : (a : Answer (List (Answer Told))) → RiddenAs settings recording a → wholeRide settings recording ≡ a
   unfolding wholeRide

@@ -28,7 +28,7 @@ use Rattle.session.specs.declared.Session.{Session}
 use Rattle.session.specs.declared.Sampled.{Sampled}
 use Rattle.session.specs.declared.Outcome.the-variants.{Answered, Refused}
 use Rattle.session.specs.Types.{typeSpeed}
-use Rattle.session.specs.Session.{openingVersion, freshSession, openSession, carried, ranOf, sampleOf}
+use Rattle.session.specs.Session.{openingVersion, freshSession, openSession, ranOf, sampleOf}
 use Rattle.rides.specs.Recording.{RecordingMet, trainOf, samplesOf}
 use Rattle.rides.specs.Ride.{wholeRide}
 use Rattle.laws.specs.Ranges.{Inside}
@@ -78,7 +78,7 @@ pub data SampledAs (s : Session) (x : Sample) : Sampled → Type 0 where
   refused-10 : Inside s → CodesMet x → 100000 < x .pulses * s .settings .tick → SampledAs s x (refusalBy 10 s)
   -- "mode changed in a sample with pulses"
   refused-11 : Inside s → CodesMet x → x .pulses * s .settings .tick ≤ 100000 → (ModeMet s x → ⊥) → SampledAs s x (refusalBy 11 s)
-  answered : Inside s → CodesMet x → x .pulses * s .settings .tick ≤ 100000 → ModeMet s x → SampledAs s x (ranOf (carried s x) s)
+  answered : Inside s → CodesMet x → x .pulses * s .settings .tick ≤ 100000 → ModeMet s x → SampledAs s x (ranOf s x)
 
 -- ---- settings and a recording: "a ride 14, 7, its samples"
 

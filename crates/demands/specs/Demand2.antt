@@ -16,7 +16,7 @@ use Rattle.card.specs.Writing.{writeCard, written, leaves}
 use Rattle.session.specs.declared.Sample.{Sample}
 use Rattle.session.specs.declared.Session.{Session}
 use Rattle.session.specs.declared.Outcome.the-variants.{Answered}
-use Rattle.session.specs.Session.{freshSession, openSession, carried, stepped, sampleOf}
+use Rattle.session.specs.Session.{freshSession, withDesk, openSession, carried, stepped, sampleOf}
 use Rattle.session.specs.Runs.{after}
 use Rattle.laws.specs.Ranges.{Inside}
 use Rattle.laws.specs.Refusals.{Accepted}
@@ -27,10 +27,9 @@ pub record Demand2 : Type 0 where
   pub opened : (s : Settings) (train : ℕ) (u : Session) → openSession s train ≡ given u → (u ≡ freshSession s train) × Inside u
   pub always-inside : (s : Settings) (train : ℕ) (u : Session) (xs : List Sample) → openSession s train ≡ given u → Inside (after u xs)
   -- "The session is handed in and handed back with each sample's answer.": each accepted sample's answer, and the desk after it, are the
-  -- definition's; settings and train type stay. (What a refused one gives is demand 1's.)
+  -- definition's; the rest of the session, settings and train type, stays. (What a refused one gives is demand 1's.)
   pub answered : (s : Session) (x : Sample) → Accepted s x
-      → sampleOf s x ≡ (let e = stepped s (carried s x) in
-      record { session = record { settings = s .settings; train = s .train; desk = e .desk }; outcome = Answered (e .answer) })
+      → sampleOf s x ≡ (let e = stepped s (carried s x) in record { session = withDesk (e .desk) s; outcome = Answered (e .answer) })
   -- A card is accepted exactly when its version is known and its layout met, and it is read as the settings of its bytes.
   pub card-accepted : (area : List ℕ) (highest : ℕ) (s : Settings) → (readCard area highest ≡ given s) ↔ (CardMet area highest × (s ≡ settingsOf area))
   -- What is written reads back, whatever stood in the buffer, in every reader that knows its version.

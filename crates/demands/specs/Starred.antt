@@ -13,7 +13,7 @@ use Rattle.signals.specs.declared.control.MainKind.the-variants.{BeforeStop}
 use Rattle.desk.specs.State.{withMain, freshDesk}
 use Rattle.session.specs.declared.Session.{Session}
 use Rattle.session.specs.declared.Outcome.{Outcome}
-use Rattle.session.specs.Session.{openSession, sampleOf}
+use Rattle.session.specs.Session.{freshSession, withDesk, openSession, sampleOf}
 use Rattle.demands.specs.Runs.{runFrom}
 use Rattle.demands.specs.Examples.{conv, times, endOf, answer, shows, cardA-with}
 
@@ -49,7 +49,7 @@ crossingLines =
 -- "* Beacon 7 again at 799,999 zone, 800,000 none." With function 1, a session in its ranges whose row 4 is main, at that distance less this
 -- sample's 2,000 from its reading: 799,999 is a prime, which no tick length's pulses add up to.
 abbrev near : ℕ → Session
-near distance = record { settings = cardA-with 100 2 (cardA .limit); train = 6; desk = withMain (mainOf BeforeStop 9 distance) freshDesk }
+near distance = withDesk (withMain (mainOf BeforeStop 9 distance) freshDesk) (freshSession (cardA-with 100 2 (cardA .limit)) 6)
 
 abbrev zoneLines : List Line
 zoneLines =

@@ -12,7 +12,6 @@ use Rattle.leaf.specs.Answers.{Answer, given, refused, refusedAt}
 use Rattle.card.specs.declared.Settings.{Settings}
 use Rattle.card.specs.Ranges.{checkSettings, inRange}
 use Rattle.card.proofs.Accepted.{in-range-only}
-use Rattle.step.specs.declared.Input.{Input}
 use Rattle.session.specs.declared.Sample.{Sample}
 use Rattle.session.specs.declared.Session.{Session}
 use Rattle.session.specs.Types.{typeSpeed, typeAllowed}
@@ -45,16 +44,16 @@ opened-inside settings train s h = judged (checkSettings openingVersion settings
 
 -- ---- a sample
 
-ran-inside : (x : Input) (s : Session) → x .beacon ≤ codeTop → insideOf s ≡ true → insideOf (ranOf x s .session) ≡ true
+ran-inside : (s : Session) (x : Sample) → x .beacon ≤ codeTop → insideOf s ≡ true → insideOf (ranOf s x .session) ≡ true
 unfolding ranOf
-ran-inside x s b h =
+ran-inside s x b h =
     let i = inside-only s h in
     inside-when _ (record {
       settings = i .settings;
       train-low = i .train-low;
       train-high = i .train-high;
       type-speed = i .type-speed;
-      desk = range-laws .step-in (s .settings) (typeSpeed (s .train) * 100) x (s .desk) b (i .desk);
+      desk = range-laws .step-in (s .settings) (typeSpeed (s .train) * 100) (carried s x) (s .desk) b (i .desk);
     })
 
 sample-inside : (s : Session) (x : Sample) → insideOf s ≡ true → insideOf (sampleOf s x .session) ≡ true
@@ -67,7 +66,7 @@ sample-inside s x h = cases (eqb n 0) refl
     cases true e =
         let z = eqb-true n 0 e in
         let b = refusal-laws s x .accepted .0 z .codes .beacon-high in
-        rw (refusal-laws s x .accepted-as z) (ran-inside (carried s x) s b h)
+        rw (refusal-laws s x .accepted-as z) (ran-inside s x b h)
     cases false e = rw (refusal-laws s x .refused-as n refl (eqb-false n 0 e)) h
 
 -- ---- any list of samples

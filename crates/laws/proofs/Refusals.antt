@@ -15,7 +15,8 @@ use Rattle.desk.specs.Clock.{sameMode}
 use Rattle.session.specs.declared.Sample.{Sample}
 use Rattle.session.specs.declared.Session.{Session}
 use Rattle.session.specs.declared.Outcome.the-variants.{Refused}
-use Rattle.session.specs.Session.{insideOf, standstill, inBts, sampleChecks, refusedBy, carried, ranOf, sampleOf}
+use Rattle.session.specs.Session.{insideOf, standstill, inBts, sampleChecks, refusedBy, ranOf, sampleOf}
+use Rattle.step_laws.proofs.Choosing.{not-so}
 use Rattle.laws.specs.Ranges.{Inside}
 use Rattle.laws.specs.Refusals.{CodesMet, ModeMet, Accepted, RefusalLaws}
 use Rattle.laws.proofs.Ranges.{inside-only, inside-when}
@@ -24,11 +25,6 @@ use Rattle.laws.proofs.Ranges.{inside-only, inside-when}
 
 apart : {A : Type 0} (t : Bool) → t ≡ true → t ≡ false → A
 apart t p q = let z : _≡_ {A = ℕ} 0 1 = cc in absurd (omega arith)
-
--- a test that is not true is false
-not-so : (t : Bool) → (t ≡ true → ⊥) → t ≡ false
-not-so true h = absurd (h refl)
-not-so false h = refl
 
 -- "session out of its ranges": exactly when the facts of a session inside do not all hold
 outside-only : (s : Session) → insideOf s ≡ false → Inside s → ⊥
@@ -221,7 +217,7 @@ module _ (s : Session) (x : Sample) where
   unfolding sampleOf
   refused-as n h z = rw (h, ne-eqb n 0 z)
 
-  accepted-as : refusedBy s x ≡ 0 → sampleOf s x ≡ ranOf (carried s x) s
+  accepted-as : refusedBy s x ≡ 0 → sampleOf s x ≡ ranOf s x
   unfolding sampleOf
   accepted-as h = rw h
 

@@ -10,7 +10,7 @@ use Rattle.leaf.specs.declared.Refusal.the-variants.{Number}
 use Rattle.session.specs.declared.Sample.{Sample}
 use Rattle.session.specs.declared.Session.{Session}
 use Rattle.session.specs.declared.Outcome.the-variants.{Refused}
-use Rattle.session.specs.Session.{sampleChecks, refusedBy, carried, ranOf, sampleOf}
+use Rattle.session.specs.Session.{sampleChecks, refusedBy, ranOf, sampleOf}
 use Rattle.laws.specs.Ranges.{Inside}
 
 -- ---- the facts
@@ -55,4 +55,4 @@ pub record RefusalLaws (s : Session) (x : Sample) : Type 0 where
   -- "A refusal returns its number .. and leaves .. the handed-in session unchanged."
   pub refused-as : (n : ℕ) → refusedBy s x ≡ n → (n ≡ 0 → ⊥) → sampleOf s x ≡ record { session = s; outcome = Refused (Number n) }
   -- a sample that is accepted is run
-  pub accepted-as : refusedBy s x ≡ 0 → sampleOf s x ≡ ranOf (carried s x) s
+  pub accepted-as : refusedBy s x ≡ 0 → sampleOf s x ≡ ranOf s x

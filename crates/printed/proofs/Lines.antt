@@ -3,25 +3,23 @@
 use Prim.Native.Nat.{ℕ, zero, suc, _+_}
 use native.Mathlib.Nat.{add-zero}
 use native.Mathlib.Omega.{arith}
-use mathlib.Core.Path.{_≡_, refl, sym, ap, _∙_}
+use mathlib.Core.Path.{_≡_, refl, sym, _∙_}
 use mathlib.Core.Bool.{Bool, true, false}
 use mathlib.Core.List.{List, [], _∷_, _++_, append-nil, append-assoc, flatten}
 use lib.Dec.{eqb}
 use lib.ListN.{length, take, length-append}
-use Rattle.leaf.specs.Choosing.{pick}
 use Rattle.leaf.specs.Answers.{Answer, given, refused, refusedAt}
 use Rattle.card.specs.declared.Settings.{Settings}
 use Rattle.card.specs.Reading.{readCard}
 use Rattle.step.specs.declared.Answer.{Answer as Told}
-use Rattle.session.specs.declared.Sample.{Sample}
 use Rattle.session.specs.declared.Session.{Session}
 use Rattle.rides.specs.Recording.{samplesIn, sampleAt, firstSamples, samplesOf}
-use Rattle.rides.specs.Ride.{startRide, freshRide, shownOf, turnOf, turnShows, turnAt, rideAfter, shownBy, shownFrom, wholeRide}
+use Rattle.rides.specs.Ride.{startRide, freshRide, shownOf, turnShows, turnAt, rideAfter, shownBy, shownFrom, wholeRide}
 use Rattle.rides.specs.declared.ride.Ride.{Ride}
 use Rattle.rides.specs.declared.ride.Shown.{Shown}
 use Rattle.rides.specs.declared.ride.Shown.the-variants as shown
 use Rattle.rides.proofs.Runs.{turn-paper, recording-shows, after-suc, ended-shows, ended-turn}
-use Rattle.printed.specs.Printed.{heading, refusedLine, shownText, linesOf, startedText, cardText, highest, printedRide, linesFrom, rideLines, rideOn, printedLines}
+use Rattle.printed.specs.Printed.{shownText, linesOf, startedText, cardText, highest, printedRide, linesFrom, rideLines, rideOn, printedLines}
 use Rattle.printed.specs.declared.Columns.{Columns}
 
 -- ---- lines of a list, and of one list behind another

@@ -1,10 +1,10 @@
 -- How long a printed ride can be: a buffer of 660,040 bytes holds every one whole.
-use Prim.Native.Nat.{ℕ, zero, suc, _+_, _*_, _/_, _%_, _≤_}
+use Prim.Native.Nat.{ℕ, zero, suc, _*_, _≤_}
 use native.Mathlib.Omega.{arith}
 use mathlib.Core.Path.{_≡_, refl}
 use mathlib.Core.Bool.{Bool, true, false}
-use mathlib.Core.List.{List, [], _∷_, _++_}
-use lib.Dec.{ltb, lit≤}
+use mathlib.Core.List.{List}
+use lib.Dec.{lit≤}
 use lib.ListN.{length, length-append}
 use Rattle.leaf.specs.Choosing.{pick}
 use Rattle.leaf.specs.Answers.{Answer, given, refused, refusedAt}
@@ -13,7 +13,8 @@ use Rattle.card.specs.Reading.{readCard}
 use Rattle.session.specs.declared.Session.{Session}
 use Rattle.session.specs.Session.{openSession}
 use Rattle.step.specs.declared.Answer.{Answer as Told}
-use Rattle.text.specs.Decimal.{naught, digitOf, upperOf, lowerOf, decimal, line}
+use Rattle.text.specs.Decimal.{line}
+use Rattle.text.proofs.Lengths.{decimal-length}
 use Rattle.rides.specs.Recording.{samplesIn, goodRecording, trainOf}
 use Rattle.rides.specs.Ride.{startRide, freshRide, rideAfter, turnAt}
 use Rattle.rides.specs.declared.ride.Ride.{Ride}
@@ -23,27 +24,6 @@ use Rattle.rides.proofs.Recordings.{good-met}
 use Rattle.printed.specs.Printed.{heading, refusedLine, columnsOf, shownText, linesOf, startedText, cardText, printedRide}
 use Rattle.printed.specs.declared.Columns.{Columns}
 use Rattle.printed.specs.declared.Columns.the-variants.{Paper, Whole}
-
-digit-length : (power n : ℕ) → length (digitOf power n) ≤ 1
-digit-length power n = cases (naught + n / power % 10) (ltb n power)
-  where
-    cases : (x : ℕ) (t : Bool) → length (pick t [] (x ∷ [])) ≤ 1
-    cases x true = lit≤ tt
-    cases x false = lit≤ tt
-
-upper-length : (n : ℕ) → length (upperOf n) ≤ 5
-unfolding upperOf
-upper-length n =
-    simp length-append
-    (omega (arith, digit-length 1000000000 n, digit-length 100000000 n, digit-length 10000000 n, digit-length 1000000 n, digit-length 100000 n))
-
-lower-length : (n : ℕ) → length (lowerOf n) ≤ 5
-unfolding lowerOf
-lower-length n = simp length-append (omega (arith, digit-length 10000 n, digit-length 1000 n, digit-length 100 n, digit-length 10 n))
-
-decimal-length : (n : ℕ) → length (decimal n) ≤ 10
-unfolding decimal
-decimal-length n = simp length-append (omega (arith, upper-length n, lower-length n))
 
 answer-length : (columns : Columns) (number : ℕ) (a : Told) → length (line number (columnsOf columns a)) ≤ 66
 answer-length Paper number a =

@@ -1,16 +1,15 @@
 -- A recording is accepted exactly when it is as long as it states, of 6 + 6n bytes with n ≤ 10,000, and of version 1; and its samples
 -- are then its bytes in order.
-use Prim.Native.Nat.{ℕ, zero, suc, _+_, _*_, _-_, _/_, _≤_, _<_}
+use Prim.Native.Nat.{ℕ, zero, suc, _+_, _*_, _≤_}
 use native.Mathlib.Omega.{arith}
 use mathlib.Core.Path.{_≡_, refl, _∙_}
-use mathlib.Core.Bool.{Bool, true, false, _&&_}
+use mathlib.Core.Bool.{true}
 use mathlib.Core.List.{List, [], _∷_, _++_}
-use lib.Dec.{leb, eqb}
 use lib.ListN.{length, take, drop}
 use lib.Seq.{drop-cons, take-add, take-all}
 use borrow.Author.Tests.{leb-true, le-leb, eqb-true, eq-eqb}
 use Rattle.leaf.specs.Choosing.{and-split}
-use Rattle.leaf.specs.Bytes.{byte, word, long}
+use Rattle.leaf.specs.Bytes.{byte, word}
 use Rattle.rides.specs.Recording.{samplesIn, mostSamples, goodRecording, RecordingMet, placeOf, sampleAt}
 
 pub good-met : (recording : List ℕ) → goodRecording recording ≡ true → RecordingMet recording (samplesIn recording)

@@ -1,11 +1,10 @@
 -- "a ride 14, 7, its samples": what a whole ride gives, and exactly when. (`Runs` has its samples.)
 use Prim.Native.Nat.{ℕ}
 use native.Mathlib.Omega.{arith}
-use mathlib.Core.Path.{_≡_, refl, sym, ap, _∙_}
+use mathlib.Core.Path.{_≡_, refl, sym, _∙_}
 use mathlib.Core.Bool.{Bool, true, false}
 use mathlib.Core.Logic.{_⊎_, inl, inr}
 use mathlib.Core.List.{List}
-use Rattle.leaf.specs.Choosing.{pick}
 use Rattle.leaf.specs.Answers.{Answer, given, refused, refusedAt}
 use Rattle.card.specs.declared.Settings.{Settings}
 use Rattle.card.specs.Ranges.{inRange, checkSettings}
@@ -37,11 +36,11 @@ started-place (refused m) xs n place h = let z : _≡_ {A = ℕ} 0 1 = cc in abs
 started-place (refusedAt m p) xs n place h = cc
 
 module _ (settings : Settings) (recording : List ℕ) where
-  starts-good : goodRecording recording ≡ true → startRide settings recording ≡ openSession settings (trainOf recording)
+  pub starts-good : goodRecording recording ≡ true → startRide settings recording ≡ openSession settings (trainOf recording)
   unfolding startRide
   starts-good e = rw e
 
-  starts-bad : goodRecording recording ≡ false → startRide settings recording ≡ refused 14
+  pub starts-bad : goodRecording recording ≡ false → startRide settings recording ≡ refused 14
   unfolding startRide
   starts-bad e = rw e
 

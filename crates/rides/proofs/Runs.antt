@@ -3,7 +3,7 @@
 use Prim.Native.Nat.{ℕ, zero, suc, _+_}
 use native.Mathlib.Nat.{add-zero, add-suc}
 use mathlib.Core.Path.{_≡_, refl, sym, ap, _∙_}
-use mathlib.Core.Bool.{Bool, true, false, _&&_}
+use mathlib.Core.Bool.{Bool, true, false}
 use mathlib.Core.List.{List, [], _∷_, _++_, map, append-nil, append-assoc}
 use lib.Dec.{eqb}
 use lib.ListN.{take}
@@ -33,7 +33,7 @@ turn-paper r x = cases (eqb (r .ended) 0) (eqb (refusedBy (r .session) x) 0)
   where
     told : Bool → Sampled
     told t =
-        pick t (ranOf (carried (r .session) x) (r .session)) (record { session = r .session; outcome = Refused (Number (refusedBy (r .session) x)) })
+        pick t (ranOf (r .session) x) (record { session = r .session; outcome = Refused (Number (refusedBy (r .session) x)) })
 
     cases : (going t : Bool) → shownOf (pick going (toldOf (told t .session) (told t .outcome)) (record { ride = r; shown = Nothing }) .shown)
         ≡ pick going (pick t (given (stepped (r .session) (carried (r .session) x) .answer)) (refused (refusedBy (r .session) x)) ∷ []) []

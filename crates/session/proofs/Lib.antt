@@ -1,3 +1,4 @@
+pub mod Runs
 pub mod Paper
 pub mod Determined
 pub mod Opening

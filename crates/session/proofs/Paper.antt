@@ -9,14 +9,14 @@ use Rattle.session.specs.declared.Sample.{Sample}
 use Rattle.session.specs.declared.Session.{Session}
 use Rattle.session.specs.declared.Sampled.{Sampled}
 use Rattle.session.specs.declared.Outcome.the-variants.{Refused}
-use Rattle.session.specs.Session.{refusedBy, carried, stepped, sampledAs, ranOf, sampleOf, outcomeOf, answerTo}
+use Rattle.session.specs.Session.{refusedBy, carried, stepped, ranOf, sampleOf, outcomeOf, answerTo}
 
 pub sample-paper : (s : Session) (x : Sample) → outcomeOf (sampleOf s x .outcome) ≡ answerTo s x
 unfolding ranOf sampleOf answerTo
 sample-paper s x = cases (eqb (refusedBy s x) 0)
   where
     cases : (t : Bool)
-        → outcomeOf (pick t (sampledAs s (stepped s (carried s x))) (record { session = s; outcome = Refused (Number (refusedBy s x)) }) .outcome)
+        → outcomeOf (pick t (ranOf s x) (record { session = s; outcome = Refused (Number (refusedBy s x)) }) .outcome)
         ≡ pick t (given (stepped s (carried s x) .answer)) (refused (refusedBy s x))
     cases true = refl
     cases false = refl

@@ -1,6 +1,6 @@
 -- Document 01, "The sample": the session, its opening, and a sample with its refusals.
 use Prim.Native.Nat.{ℕ, _*_}
-use mathlib.Core.Bool.{Bool, true, false, _&&_, _||_}
+use mathlib.Core.Bool.{Bool, _&&_, _||_}
 use mathlib.Core.List.{List, [], _∷_}
 use lib.Dec.{leb, eqb}
 use Rattle.leaf.specs.Choosing.{pick}
@@ -10,6 +10,7 @@ use Rattle.leaf.specs.Answers.{Answer, given, refused, refusedAt, isGiven, refu
 use Rattle.leaf.specs.declared.Refusal.the-variants.{Number}
 use Rattle.card.specs.declared.Settings.{Settings}
 use Rattle.card.specs.Ranges.{checkSettings}
+use Rattle.desk.specs.declared.state.Desk.{Desk}
 use Rattle.desk.specs.State.{freshDesk}
 use Rattle.desk.specs.Clock.{sameMode}
 use Rattle.desk.specs.Ranges.{deskInside}
@@ -26,11 +27,21 @@ use Rattle.session.specs.declared.Outcome.{Outcome}
 use Rattle.session.specs.declared.Outcome.the-variants as outcome
 use Rattle.session.specs.declared.Sampled.{Sampled}
 
--- ---- opening: "opening 5, 7"
+-- ---- a session
 
 -- "It opens in CONV with the start row as main (age 1 in the first sample), last code 0."
 abbrev pub freshSession : Settings → ℕ → Session
 freshSession settings train = record { settings = settings; train = train; desk = freshDesk }
+
+-- ---- a session with one member changed, all else as it was
+
+abbrev pub withSettings : Settings → Session → Session
+withSettings settings s = record { settings = settings; train = s .train; desk = s .desk }
+
+abbrev pub withDesk : Desk → Session → Session
+withDesk desk s = record { settings = s .settings; train = s .train; desk = desk }
+
+-- ---- opening: "opening 5, 7"
 
 -- what each case of opening's answer is on paper
 abbrev pub openedOf : Opened → Answer Session
@@ -94,22 +105,22 @@ carried s x =
       bts = inBts (x .mode);
     }
 
--- "The session is handed in and handed back with each sample's answer."
+-- "The session is handed in and handed back with each sample's answer.": with the desk of its step
 abbrev pub sampledAs : Session → Stepped → Sampled
-sampledAs s e =
-    record { session = record { settings = s .settings; train = s .train; desk = e .desk }; outcome = outcome.Answered (e .answer) }
+sampledAs s e = record { session = withDesk (e .desk) s; outcome = outcome.Answered (e .answer) }
 
 -- the step of the session's desk, T being that of its train type
 abbrev pub stepped : Session → Input → Stepped
 stepped s x = stepOf (s .settings) (typeSpeed (s .train) * 100) x (s .desk)
 
-unfoldable pub ranOf : Input → Session → Sampled
-ranOf x s = sampledAs s (stepped s x)
+-- a sample that is run
+unfoldable pub ranOf : Session → Sample → Sampled
+ranOf s x = sampledAs s (stepped s (carried s x))
 
 -- "A refusal returns its number .. and leaves .. the handed-in session unchanged."
 unfoldable pub sampleOf : Session → Sample → Sampled
 sampleOf s x =
-    pick (eqb (refusedBy s x) 0) (ranOf (carried s x) s) (record { session = s; outcome = outcome.Refused (Number (refusedBy s x)) })
+    pick (eqb (refusedBy s x) 0) (ranOf s x) (record { session = s; outcome = outcome.Refused (Number (refusedBy s x)) })
 
 -- ---- the same on paper
 

@@ -18,7 +18,7 @@ use step::step;
 ghost use mathlib.Core.Path.{_≡_};
 ghost use Prim.Native.Nat.{_*_};
 ghost use Rattle.session.specs.Types.{typeSpeed, typeAllowed};
-ghost use Rattle.session.specs.Session.{freshSession, openedOf, openSession, insideOf, standstill, refusedBy, carried, ranOf, sampleOf, outcomeOf, answerTo};
+ghost use Rattle.session.specs.Session.{freshSession, openedOf, openSession, insideOf, standstill, refusedBy, carried, stepped, sampledAs, sampleOf, outcomeOf, answerTo};
 
 // Opening takes no version: settings are judged as beside this one.
 const OPENING_VERSION: u8 = 2;
@@ -163,7 +163,7 @@ impl Session {
 
     // The sample is run: the session after it, and its answer.
     fn run(self, x: Input) -> Sampled
-        ensures { λ r. ⌜ r ≡ ranOf x self ⌝ }
+        ensures { λ r. ⌜ r ≡ sampledAs self (stepped self x) ⌝ }
     {
         let settings = self.settings;
         let desk = self.desk;

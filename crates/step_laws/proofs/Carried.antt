@@ -2,18 +2,22 @@
 use Prim.Native.Nat.{ℕ}
 use mathlib.Core.Path.{_≡_, refl, sym}
 use mathlib.Core.Bool.{Bool, true, false}
+use Rattle.leaf.specs.Choosing.{pick}
 use Rattle.card.specs.declared.Settings.{Settings}
+use Rattle.signals.specs.declared.control.MainKind.the-variants.{Announcement}
+use Rattle.signals.specs.Windows.{asksOf}
+use Rattle.signals.specs.MainControl.{nearOf}
 use Rattle.desk.specs.declared.state.Desk.{Desk}
-use Rattle.desk.specs.State.{takenOver, crossingSet, limitNow, modeChanged}
-use Rattle.desk.specs.Clock.{sameMode, deskOlder, reminded}
+use Rattle.desk.specs.State.{withCode, takenOver, crossingSet, limitNow, modeChanged}
+use Rattle.desk.specs.Clock.{sameMode, deskOlder, reminded, mainCounts}
 use Rattle.buttons.specs.Buttons.{optionUsed, limitRemoved, reminderAnswered, overrideArmed, stopIncreased, limitStepped, hidePressed}
-use Rattle.beacons.specs.Beacons.{mainOpened, sideOpened, optionOffered, reading4, stopped}
+use Rattle.beacons.specs.Beacons.{mainOpened, sideOpened, optionOffered, reading4, zoneMet, stopped}
 use Rattle.step.specs.declared.Input.{Input}
 use Rattle.step.specs.Speed.{crossingTurned}
 use Rattle.step.specs.Brake.{braked}
 use Rattle.step.specs.Step.{movedOf, judgedOf, stepOf}
 use Rattle.step_laws.specs.Walk.{atBeacon, Sets, ToBeacon, OfBeacon, CarriedLaws}
-use Rattle.step_laws.proofs.Walk.{AnyReading, at-beacon, after-beacon}
+use Rattle.step_laws.proofs.Walk.{AnyReading, sets-any, at-beacon, after-beacon}
 
 pub same-is : (a b : Bool) → sameMode a b ≡ true → a ≡ b
 same-is true true h = refl
@@ -25,6 +29,17 @@ pub same-mode : (a b : Bool) → a ≡ b → sameMode a b ≡ true
 same-mode true b e = rw (← e)
 same-mode false b e = rw (← e)
 
+-- the code that the desk keeps is no part of the stop-zone rule
+pub zone-code : (code : ℕ) (d : Desk) → zoneMet (withCode code d) ≡ zoneMet d
+unfolding zoneMet mainCounts takenOver
+zone-code code d = cases (asksOf (d .window .waits))
+  where
+    cases : (t : Bool)
+        → nearOf (pick t (takenOver Announcement (d .window .age) (d .window .distance) (withCode code d)) (withCode code d) .main)
+        ≡ nearOf (pick t (takenOver Announcement (d .window .age) (d .window .distance) d) d .main)
+    cases true = refl
+    cases false = refl
+
 module _ (s : Settings) (top : ℕ) (x : Input) (d : Desk) where
   -- the sample's mode, this code, and the brake as it was
   abbrev Carries : ℕ → Desk → Type 0
@@ -32,15 +47,7 @@ module _ (s : Settings) (top : ℕ) (x : Input) (d : Desk) where
 
   sets-carry : (code : ℕ) → Sets (Carries code) AnyReading
   unfolding takenOver crossingSet limitNow
-  sets-carry code =
-      record {
-        now = tt;
-        main-reading = λ e h. tt;
-        side-reading = λ e h. tt;
-        taken = λ kind age distance e r h. h;
-        crossing = λ age distance e r h. h;
-        limit = λ age distance e r h. h;
-      }
+  sets-carry code = sets-any (λ kind age distance e h. h) (λ age distance e h. h) (λ age e h. h)
 
   to-beacon-carry : ToBeacon s top x d (Carries (d .code))
   unfolding modeChanged deskOlder reminded optionUsed limitRemoved reminderAnswered overrideArmed stopIncreased limitStepped hidePressed
@@ -48,8 +55,8 @@ module _ (s : Settings) (top : ℕ) (x : Input) (d : Desk) where
       record {
         changed = λ e. (refl, refl, refl);
         advanced = λ e. (same-is (d .bts) (x .bts) e, refl, refl);
-        main-closed = λ e left o h n. n;
-        side-closed = λ e left o h n. n;
+        main-closed = λ e h. h;
+        side-closed = λ e h. h;
         option = λ e h. h;
         removed = λ e h. h;
         answered = λ e h. h;

@@ -17,6 +17,7 @@ pub step-has : {A : Type 0} (P : A → Type 0) (f : Bool → A → A) → ((e : 
 step-has P f p q true e h = p e h
 step-has P f p q false e h = q e h
 
+-- a test that is not true is false
 pub not-so : (t : Bool) → (t ≡ true → ⊥) → t ≡ false
 not-so true h = absurd (h refl)
 not-so false h = refl

@@ -7,10 +7,11 @@ use borrow.Author.Tests.{le-leb, leb-true}
 use Rattle.leaf.specs.Choosing.{and-split}
 use Rattle.leaf.specs.Numbers.{ageTop, distanceTop, codeTop, causeTop}
 use Rattle.sides.specs.Limit.{stepsTop}
+use Rattle.desk.specs.declared.brake.Brake.{Brake}
 use Rattle.desk.specs.declared.beside.Beside.{Beside}
 use Rattle.desk.specs.declared.state.Desk.{Desk}
 use Rattle.desk.specs.Ranges.{brakeInside, mainInside, windowInside, overrideInside, reminderInside, optionInside, alongsideInside, crossingInside, limitInside, besideInside, deskInside}
-use Rattle.step_laws.specs.Ranges.{BesideIn, DeskIn}
+use Rattle.step_laws.specs.Ranges.{BrakeIn, BesideIn, DeskIn}
 
 -- ---- two tests at once
 
@@ -29,7 +30,13 @@ two-out a m b n p q = rw (le-leb a m p, le-leb b n q)
 pub three-out : (a m b n c k : ℕ) → a ≤ m → b ≤ n → c ≤ k → (leb a m && leb b n && leb c k) ≡ true
 three-out a m b n c k p q r = rw (le-leb a m p, le-leb b n q, le-leb c k r)
 
--- ---- beside the main control
+-- ---- the desk's parts: the brake, and what stands beside the main control
+
+brake-only : (b : Brake) → brakeInside b ≡ true → BrakeIn b
+brake-only b h = record { cause = leb-true (b .cause) causeTop h }
+
+brake-when : (b : Brake) → BrakeIn b → brakeInside b ≡ true
+brake-when b h = le-leb (b .cause) causeTop (h .cause)
 
 beside-only : (b : Beside) → besideInside b ≡ true → BesideIn b
 unfolding besideInside
@@ -60,7 +67,8 @@ beside-when b h =
 pub desk-only : (d : Desk) → deskInside d ≡ true → DeskIn d
 unfolding deskInside
 desk-only d h =
-    let t1 : Bool = leb (d .code) codeTop && brakeInside (d .brake) in
+    let t0 : Bool = leb (d .code) codeTop in
+    let t1 : Bool = t0 && brakeInside (d .brake) in
     let t2 : Bool = t1 && mainInside (d .main) in
     let t3 : Bool = t2 && windowInside (d .window) in
     let t4 : Bool = t3 && windowInside (d .side) in
@@ -74,15 +82,15 @@ desk-only d h =
     let h4 = and-split t3 (windowInside (d .side)) (h5 .0) in
     let h3 = and-split t2 (windowInside (d .window)) (h4 .0) in
     let h2 = and-split t1 (mainInside (d .main)) (h3 .0) in
-    let first = two-in (d .code) codeTop (d .brake .cause) causeTop (h2 .0) in
+    let h1 = and-split t0 (brakeInside (d .brake)) (h2 .0) in
     let main = two-in (d .main .age) ageTop (d .main .distance) distanceTop (h2 .1) in
     let window = three-in (d .window .left) ageTop (d .window .age) ageTop (d .window .distance) distanceTop (h3 .1) in
     let side = three-in (d .side .left) ageTop (d .side .age) ageTop (d .side .distance) distanceTop (h4 .1) in
     let reminder = three-in (d .reminder .age) ageTop (d .reminder .fast) ageTop (d .reminder .distance) distanceTop (h6 .1) in
     let option = two-in (d .option .age) ageTop (d .option .distance) distanceTop (h7 .1) in
     record {
-      code = first .0;
-      brake = record { cause = first .1 };
+      code = leb-true (d .code) codeTop (h1 .0);
+      brake = brake-only (d .brake) (h1 .1);
       main = record { age = main .0; distance = main .1 };
       window = record { left = window .0; age = window .1 .0; distance = window .1 .1 };
       side = record { left = side .0; age = side .1 .0; distance = side .1 .1 };
@@ -96,7 +104,8 @@ pub desk-when : (d : Desk) → DeskIn d → deskInside d ≡ true
 unfolding deskInside
 desk-when d h =
     rw (
-      two-out (d .code) codeTop (d .brake .cause) causeTop (h .code) (h .brake .cause),
+      le-leb (d .code) codeTop (h .code),
+      brake-when (d .brake) (h .brake),
       two-out (d .main .age) ageTop (d .main .distance) distanceTop (h .main .age) (h .main .distance),
       three-out (d .window .left) ageTop (d .window .age) ageTop (d .window .distance) distanceTop (h .window .left) (h .window .age) (h .window .distance),
       three-out (d .side .left) ageTop (d .side .age) ageTop (d .side .distance) distanceTop (h .side .left) (h .side .age) (h .side .distance),

@@ -25,7 +25,7 @@ use Rattle.step_laws.specs.Walk.{atBeacon, Sets}
 use Rattle.step_laws.specs.Windows.{oneOn}
 use Rattle.step_laws.specs.Unanswered.{Which, main, side, isMain, windowOf, TimeOver, Right, MainTakes, Answers, Unanswered, AnswerLaws, atButtons}
 use Rattle.step_laws.proofs.Choosing.{not-so, pick-by, pick-has, step-has}
-use Rattle.step_laws.proofs.Walk.{AnyReading, answered-keeps, Uses, all-pressed}
+use Rattle.step_laws.proofs.Walk.{AnyReading, sets-any, answered-keeps, Uses, all-pressed}
 use Rattle.step_laws.proofs.Carried.{same-mode}
 use Rattle.step_laws.proofs.Windows.{none-answers, missed-exactly, window-laws}
 
@@ -125,15 +125,7 @@ module _ (s : Settings) (x : Input) (d : Desk) (same : d .bts ≡ x .bts) where
 -- what readings, answers, misses and displacements set is no window
 pub sets-window : (which : Which) (w : Window) → Sets (λ (e : Desk). windowOf which e ≡ w) AnyReading
 unfolding takenOver crossingSet limitNow
-sets-window which w =
-    record {
-      now = tt;
-      main-reading = λ e h. tt;
-      side-reading = λ e h. tt;
-      taken = λ kind age distance e r h. h;
-      crossing = λ age distance e r h. h;
-      limit = λ age distance e r h. h;
-    }
+sets-window which w = sets-any (λ kind age distance e h. h) (λ age distance e h. h) (λ age e h. h)
 
 answered-window : (which : Which) (weight : ℕ) (u : Window) (e : Desk) → windowOf which (answeredBy weight u e) ≡ windowOf which e
 answered-window which weight u e = answered-keeps (sets-window which (windowOf which e)) weight u e tt refl

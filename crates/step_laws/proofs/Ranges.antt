@@ -151,8 +151,8 @@ module _ (s : Settings) (top : ℕ) (x : Input) (d : Desk) (b : x .beacon ≤ co
       record {
         changed = λ e. bare-in (x .bts) (d .code) (d .brake) _ (i .code) (i .brake) (resting-in (x .bts));
         advanced = λ e. let h = older-in (x .m) d i in set-reminder h _ (reminder-reminded _ _ (s .x) (s .y) _ (h .reminder));
-        main-closed = λ e left o h n. set-window n _ window-closed;
-        side-closed = λ e left o h n. set-side n _ window-closed;
+        main-closed = λ e h. set-window h _ window-closed;
+        side-closed = λ e h. set-side h _ window-closed;
         option = λ e h.
             set-option (set-crossing h _ (crossing-protected _ _ true (e .beside .crossing) (h .option .age) (h .option .distance) (h .beside .crossing))) _ option-none;
         removed = λ e h. set-limit h _ limit-none;

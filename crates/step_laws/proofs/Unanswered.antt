@@ -6,17 +6,16 @@ use mathlib.Core.Bool.{Bool, true, false, _&&_, false≢true}
 use mathlib.Core.List.{List, [], _∷_}
 use mathlib.Core.Logic.{_⊎_, inl, inr, _↔_}
 use lib.ListN.{length}
-use Rattle.leaf.specs.Choosing.{pick, and-split}
+use Rattle.leaf.specs.Choosing.{and-split}
 use Rattle.card.specs.declared.Settings.{Settings}
 use Rattle.card.specs.Card.{protects, zones}
 use Rattle.signals.specs.declared.window.Waits.{Waits}
 use Rattle.signals.specs.declared.window.Waits.the-variants as waits
 use Rattle.signals.specs.declared.window.Window.{Window}
-use Rattle.signals.specs.declared.control.MainKind.the-variants.{Announcement}
-use Rattle.signals.specs.Windows.{missTime, zoneMiss, closed, opened, isOpen, asksOf, windowOlder, missedOf, answersOf, timeLeft}
+use Rattle.signals.specs.Windows.{missTime, zoneMiss, closed, opened, isOpen, windowOlder, missedOf, answersOf, timeLeft}
 use Rattle.signals.specs.MainControl.{mainOlder, nearOf}
 use Rattle.desk.specs.declared.state.Desk.{Desk}
-use Rattle.desk.specs.State.{withCode, withWindow, takenOver, crossingSet}
+use Rattle.desk.specs.State.{withCode, withWindow, crossingSet}
 use Rattle.desk.specs.Clock.{deskOlder, reminded, mainCounts, mainMissed, sideMissed, advanced, begun}
 use Rattle.buttons.specs.Buttons.{chosen, answeredBy, mainAnswered, sideAnswered, pressed, freeFor, optionUsed, limitRemoved, reminderAnswered, overrideArmed, stopIncreased, limitStepped, crossingPressed, limitPressed, overridePressed, increasePressed, hidePressed, windowPresses, allPresses, pressesOf}
 use Rattle.beacons.specs.Beacons.{mainOpened, sideOpened, optionOffered, reading3, reading4, zoneMet, reading7, stopped, reading8, readingOf, readIf, beaconTaken}
@@ -27,7 +26,7 @@ use Rattle.step.specs.Step.{movedOf, judgedOf, stepOf}
 use Rattle.step_laws.specs.Walk.{atBeacon, readsAt, OfBeacon}
 use Rattle.step_laws.specs.Unanswered.{Which, main, side, isMain, windowOf, Open, TimeOver, Unanswered, reads, Shuts, Zones, WindowAfter, waitingDesk, beacon7, sharingDesk, beacon10, NoLending, stepsOf, AllUnanswered, ChainLaws}
 use Rattle.step_laws.proofs.Walk.{after-beacon}
-use Rattle.step_laws.proofs.Carried.{carried-laws}
+use Rattle.step_laws.proofs.Carried.{zone-code, carried-laws}
 use Rattle.step_laws.proofs.Presses.{sets-window, answer-laws}
 
 -- ---- from the beacon on, with a window at hand that is one sample older
@@ -41,17 +40,6 @@ data Left (s : Settings) (top : ℕ) (x : Input) (d : Desk) (which : Which) (bef
 -- a beacon is read by the desk where it is looked at exactly as by the desk before
 reads-at : (s : Settings) (top : ℕ) (x : Input) (d : Desk) → readsAt s x (atBeacon s top x d) ≡ reads s x d
 reads-at s top x d = let c = carried-laws s top x d in rw (c .at-mode, c .at-code)
-
--- the code that the desk keeps is no part of the stop-zone rule
-zone-code : (code : ℕ) (d : Desk) → zoneMet (withCode code d) ≡ zoneMet d
-unfolding zoneMet mainCounts takenOver
-zone-code code d = cases (asksOf (d .window .waits))
-  where
-    cases : (t : Bool)
-        → nearOf (pick t (takenOver Announcement (d .window .age) (d .window .distance) (withCode code d)) (withCode code d) .main)
-        ≡ nearOf (pick t (takenOver Announcement (d .window .age) (d .window .distance) d) d .main)
-    cases true = refl
-    cases false = refl
 
 module _ (s : Settings) (top : ℕ) (x : Input) (d : Desk) (old : Window) (before : ℕ)
     (waits-on : isOpen (old .waits) ≡ true) (time : old .left + 1 ≡ before) where

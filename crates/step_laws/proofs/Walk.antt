@@ -1,10 +1,9 @@
 -- The walk through the steps of a sample: what is shown of each single thing that can happen is so of the whole.
 use Prim.Native.Nat.{ℕ, suc, _^_}
 use mathlib.Core.Path.{_≡_, refl}
-use mathlib.Core.Bool.{Bool, true, false, _&&_, not}
+use mathlib.Core.Bool.{Bool, true, false, _&&_}
 use lib.Dec.{eqb}
 use borrow.Author.Tests.{eqb-true}
-use Rattle.leaf.specs.Choosing.{and-split}
 use Rattle.leaf.specs.Numbers.{bitOf}
 use Rattle.leaf.specs.Buttons.{announcementButton, preannouncementButton, cautionButton, crossingButton, limitButton}
 use Rattle.card.specs.declared.Row.{Row}
@@ -15,21 +14,34 @@ use Rattle.signals.specs.declared.window.Waits.the-variants as waits
 use Rattle.signals.specs.declared.window.Window.{Window}
 use Rattle.signals.specs.declared.control.MainKind.{MainKind}
 use Rattle.signals.specs.declared.control.MainKind.the-variants as main
-use Rattle.signals.specs.Windows.{isOpen, asksOf, missedOf, answersOf}
+use Rattle.signals.specs.Windows.{isOpen, asksOf}
 use Rattle.desk.specs.declared.state.Desk.{Desk}
 use Rattle.desk.specs.declared.clock.Turn.{Turn}
-use Rattle.desk.specs.State.{withCode, modeChanged}
-use Rattle.desk.specs.Clock.{sameMode, deskOlder, reminded, mainCounts, sideCounts, mainMissed, sideMissed, advanced, begun}
+use Rattle.desk.specs.State.{withCode, takenOver, crossingSet, limitNow, modeChanged}
+use Rattle.desk.specs.Clock.{sameMode, reminded, mainCounts, sideCounts, mainMissed, sideMissed, advanced, begun}
 use Rattle.buttons.specs.Buttons.{chosen, answeredBy, mainAnswered, sideAnswered, pressed, optionUsed, limitRemoved, reminderAnswered, overrideArmed, stopIncreased, limitStepped, crossingPressed, limitPressed, overridePressed, increasePressed, hidePressed, windowPresses, allPresses, pressesOf}
 use Rattle.beacons.specs.Beacons.{reading1, readingRow, optionOffered, reading3, reading4, zoneOr, zoneMet, reading7, reading8, reading9, readingLimit, readingOf, readIf, beaconTaken}
 use Rattle.step.specs.declared.Input.{Input}
 use Rattle.step.specs.Step.{movedOf}
-use Rattle.step_laws.specs.Walk.{atBeacon, readsAt, Ends, missed, pressed as by-press, Sets, ToBeacon, OfBeacon}
+use Rattle.step_laws.specs.Walk.{atBeacon, readsAt, Sets, ToBeacon, OfBeacon}
 use Rattle.step_laws.proofs.Choosing.{pick-by, pick-has, step-has}
 
 -- any age, any distance: where P does not speak of readings
 abbrev pub AnyReading : ℕ → ℕ → Type 0
 AnyReading age distance = Unit {0}
+
+-- what is set keeps a P that speaks of no reading, where it is kept whatever age and distance are
+pub sets-any : {P : Desk → Type 0} → ((kind : MainKind) (age distance : ℕ) (e : Desk) → P e → P (takenOver kind age distance e))
+    → ((age distance : ℕ) (e : Desk) → P e → P (crossingSet age distance e)) → ((age : ℕ) (e : Desk) → P e → P (limitNow age e)) → Sets P AnyReading
+sets-any taken crossing limit =
+    record {
+      now = tt;
+      main-reading = λ e h. tt;
+      side-reading = λ e h. tt;
+      taken = λ kind age distance e r h. taken kind age distance e h;
+      crossing = λ age distance e r h. crossing age distance e h;
+      limit = λ age distance e r h. limit age e h;
+    }
 
 -- ---- what is set
 
@@ -83,50 +95,39 @@ all-pressed x P press u m row top e h =
 module _ {s : Settings} {top : ℕ} {x : Input} {d : Desk} {P : Desk → Type 0} {R : ℕ → ℕ → Type 0} (k : Sets P R) (t : ToBeacon s top x d P) where
   -- ---- mode; ages and misses
 
-  main-missed : (b : Bool) (e : Desk) → missedOf (e .window) ≡ b → P e → P (mainMissed b e)
+  main-missed : (b : Bool) (e : Desk) → P e → P (mainMissed b e)
   unfolding mainMissed
-  main-missed true e o h = t .main-closed e _ (missed o) h (main-counts k e h)
-  main-missed false e o h = h
+  main-missed true e h = t .main-closed _ (main-counts k e h)
+  main-missed false e h = h
 
-  -- e is the desk before the main window's miss
-  side-missed : (b : Bool) (e next : Desk) → missedOf (e .side) ≡ b → P e → P next → P (sideMissed b next)
+  side-missed : (b : Bool) (e : Desk) → P e → P (sideMissed b e)
   unfolding sideMissed
-  side-missed true e next o h n = t .side-closed e _ (missed o) h (side-counts k next n)
-  side-missed false e next o h n = n
+  side-missed true e h = t .side-closed _ (side-counts k e h)
+  side-missed false e h = h
 
   begun-has : P (begun (x .bts) (x .m) (reminds (s .functions)) (s .x) (s .y) d .desk)
   unfolding begun advanced reminded
   begun-has = pick-by (λ (u : Turn). P (u .desk)) (sameMode (d .bts) (x .bts)) {x = advanced (x .m) (reminds (s .functions)) (s .x) (s .y) d} {y = record { desk = modeChanged (x .bts) d; cause = 0 }} on (λ e. t .changed e)
     where
-      rest : Desk
-      rest = reminded (reminds (s .functions)) (s .x) (s .y) (deskOlder (x .m) d)
-
       on : sameMode (d .bts) (x .bts) ≡ true → P (advanced (x .m) (reminds (s .functions)) (s .x) (s .y) d .desk)
-      on e = let h = t .advanced e in side-missed (missedOf (rest .side)) rest _ refl h (main-missed (missedOf (rest .window)) rest refl h)
+      on e = side-missed _ _ (main-missed _ _ (t .advanced e))
 
   -- ---- buttons
 
-  main-answered : (b : Bool) (weight : ℕ) (e : Desk) → (b ≡ true → Ends x (e .window)) → P e → P (mainAnswered b weight e)
+  main-answered : (b : Bool) (weight : ℕ) (e : Desk) → P e → P (mainAnswered b weight e)
   unfolding mainAnswered
-  main-answered true weight e o h = t .main-closed e _ (o refl) h (answered-keeps k weight (e .window) e (k .main-reading e h) h)
-  main-answered false weight e o h = h
+  main-answered true weight e h = t .main-closed _ (answered-keeps k weight (e .window) e (k .main-reading e h) h)
+  main-answered false weight e h = h
 
-  side-answered : (b : Bool) (weight : ℕ) (e next : Desk) → (b ≡ true → Ends x (e .side)) → P e → P next → P (sideAnswered b weight next)
+  side-answered : (b : Bool) (weight : ℕ) (e : Desk) → P e → P (sideAnswered b weight e)
   unfolding sideAnswered
-  side-answered true weight e next o h n = t .side-closed e _ (o refl) h (answered-keeps k weight (next .side) next (k .side-reading next n) n)
-  side-answered false weight e next o h n = n
+  side-answered true weight e h = t .side-closed _ (answered-keeps k weight (e .side) e (k .side-reading e h) h)
+  side-answered false weight e h = h
 
   -- button i
   pressed-keeps : (i : ℕ) (e : Desk) → P e → P (pressed (bitOf (x .buttons) (2 ^ i)) (2 ^ i) e)
   unfolding pressed
-  pressed-keeps i e h =
-      let on : Bool = bitOf (x .buttons) (2 ^ i) in
-      let main : Bool = answersOf (e .window) (2 ^ i) in
-      let side : Bool = answersOf (e .side) (2 ^ i) in
-      side-answered (on && not main && side) (2 ^ i) e _
-      (λ p. let q = and-split (on && not main) side p in by-press i (and-split on (not main) (q .0) .0) (q .1))
-      h
-      (main-answered (on && main) (2 ^ i) e (λ p. let q = and-split on main p in by-press i (q .0) (q .1)) h)
+  pressed-keeps i e h = side-answered _ _ _ (main-answered _ _ e h)
 
   uses : Uses P
   unfolding optionUsed limitRemoved reminderAnswered overrideArmed stopIncreased limitStepped hidePressed

@@ -1,17 +1,16 @@
 -- Document 01, "The sample": "Order in a sample: mode; ages and distances advance, endings, reminders and missed windows; buttons, lowest bit
 -- first; beacon; speed; brake." One walk through the steps of a sample, for every fact about the desk: here is what has to be shown of each
--- single thing that can happen, with the reason why it happens; that this is enough is proved once (proofs/Walk.antt).
-use Prim.Native.Nat.{ℕ, _^_}
+-- single thing that can happen, with the reason why it happens where a law asks after it; that this is enough is proved once
+-- (proofs/Walk.antt).
+use Prim.Native.Nat.{ℕ}
 use mathlib.Core.Path.{_≡_}
 use mathlib.Core.Bool.{Bool, true, false, _&&_}
-use Rattle.leaf.specs.Numbers.{bitOf}
 use Rattle.card.specs.declared.Settings.{Settings}
 use Rattle.card.specs.Card.{zones, reminds, readsInBts}
 use Rattle.signals.specs.declared.window.Waits.{Waits}
 use Rattle.signals.specs.declared.window.Waits.the-variants as waits
-use Rattle.signals.specs.declared.window.Window.{Window}
 use Rattle.signals.specs.declared.control.MainKind.{MainKind}
-use Rattle.signals.specs.Windows.{zoneMiss, closed, opened, isOpen, missedOf, answersOf}
+use Rattle.signals.specs.Windows.{zoneMiss, closed, opened, isOpen}
 use Rattle.desk.specs.declared.state.Desk.{Desk}
 use Rattle.desk.specs.State.{withCode, withWindow, withSide, takenOver, crossingSet, limitNow, modeChanged}
 use Rattle.desk.specs.Clock.{sameMode, deskOlder, reminded, begun}
@@ -28,11 +27,6 @@ atBeacon s top x d =
 -- a beacon is read there
 abbrev pub readsAt : Settings → Input → Desk → Bool
 readsAt s x e = readsOf (x .beacon) (readsInBts (s .functions)) (e .bts) (e .code)
-
--- a window ends: it is missed, or a pressed button answers it; button k has weight 2 to the k
-pub data Ends (x : Input) (w : Window) : Type 0 where
-  missed : missedOf w ≡ true → Ends x w
-  pressed : (k : ℕ) → bitOf (x .buttons) (2 ^ k) ≡ true → answersOf w (2 ^ k) ≡ true → Ends x w
 
 -- what readings, answers, misses and displacements set keeps P; R holds of the age and distance of a reading
 pub record Sets (P : Desk → Type 0) (R : ℕ → ℕ → Type 0) : Type 0 where
@@ -52,9 +46,9 @@ module _ (s : Settings) (top : ℕ) (x : Input) (d : Desk) where
     -- mode; or, where it is not changed, ages, endings and reminders
     pub changed : sameMode (d .bts) (x .bts) ≡ false → P (modeChanged (x .bts) d)
     pub advanced : sameMode (d .bts) (x .bts) ≡ true → P (reminded (reminds (s .functions)) (s .x) (s .y) (deskOlder (x .m) d))
-    -- a window that ends, by the desk e, is closed on the desk that its miss or answer leaves
-    pub main-closed : (e left : Desk) → Ends x (e .window) → P e → P left → P (withWindow closed left)
-    pub side-closed : (e left : Desk) → Ends x (e .side) → P e → P left → P (withSide closed left)
+    -- a window that is missed or answered is closed, on the desk that its miss or answer leaves
+    pub main-closed : (e : Desk) → P e → P (withWindow closed e)
+    pub side-closed : (e : Desk) → P e → P (withSide closed e)
     -- presses that no window takes
     pub option : (e : Desk) → P e → P (optionUsed true e)
     pub removed : (e : Desk) → P e → P (limitRemoved true e)

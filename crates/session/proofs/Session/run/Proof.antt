@@ -1,10 +1,8 @@
 use borrow.Author.Needs.{needs}
 use Rattle.session.proofs.Session.run.Statement.{statement}
 use Rattle.session.proofs.Session.run.Tie as tie
-use Rattle.session.specs.Session.{ranOf}
 
 returns : tie.Need-returns
-unfolding ranOf
 returns c = simp (c .before .before .step .ensures, c .before .before .before .hundredths .ensures, c .before .before .before .before .type-speed .ensures)
 
 pub run-spec : {M : Type 1} → statement M

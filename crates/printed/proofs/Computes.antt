@@ -1,0 +1,60 @@
+-- The definitions that examples compute through, a layer at a time: `unfolding card` opens those of the card, `unfolding answers` all up to
+-- the answer of a sample.
+use Rattle.leaf.specs.Bytes.{byte, word}
+use Rattle.leaf.specs.Checks.{orFault}
+use Rattle.card.specs.Card.{rowAt}
+use Rattle.card.specs.Ranges.{settingsFault, faultOf, checkSettings}
+use Rattle.card.specs.Reading.{functionsFrom, settingsFrom, answerBy, readCard}
+use Rattle.curve.specs.Curve.{fallenOf, curveOf, rowSpeed}
+use Rattle.signals.specs.MainControl.{mainOlder, nearOf, mayIncrease, increaseLit}
+use Rattle.signals.specs.Stop.{alongsideOlder, alongsideAfter, overrideOlder, reminderOlder, firstMet, reminderMissed, takesPress, secondMet, remindedOf}
+use Rattle.signals.specs.Windows.{answersOf, windowOlder, missedOf, timeLeft}
+use Rattle.sides.specs.Crossing.{crossingOlder, unprotectedSet, protectedSet, turnsAt, turnedAt, iconOf, optionOlder}
+use Rattle.sides.specs.Limit.{limitSet, steppedFinal, limitSpeed, mayStep, removable}
+use Rattle.desk.specs.Beside.{besideOlder}
+use Rattle.desk.specs.Ranges.{besideInside, deskInside}
+use Rattle.desk.specs.Clock.{deskOlder, reminded, mainCounts, sideCounts, mainMissed, sideMissed, advanced, begun}
+use Rattle.desk.specs.State.{takenOver, crossingSet, limitNow, modeChanged}
+use Rattle.buttons.specs.Buttons.{chosen, answeredBy, mainAnswered, sideAnswered, pressed, freeFor, optionUsed, limitRemoved, reminderAnswered, overrideArmed, stopIncreased, limitStepped, crossingPressed, limitPressed, overridePressed, increasePressed, hidePressed, windowPresses, allPresses, pressesOf}
+use Rattle.beacons.specs.Beacons.{readsOf, mainOpened, sideOpened, reading1, readingRow, optionOffered, reading3, reading4, zoneMet, reading7, stopped, reading8, reading9, readingLimit, readingOf, readIf, beaconTaken}
+use Rattle.step.specs.Brake.{lowest, standingCause, braked, windowLamps, controlLamps, lampsOf}
+use Rattle.step.specs.Step.{movedOf, answerOf, judgedOf, stepOf}
+use Rattle.step.specs.Speed.{crossingTurned, mainSpeed, btsLimit, mainLimit, alongsideLimit, crossingLimit, limitLimit, lower, supervisedOf}
+use Rattle.session.specs.Session.{openSession, settingsInside, insideOf, refusedBy, ranOf, sampleOf}
+use Rattle.session.specs.Types.{typeSpeed, typeAllowed}
+
+unfoldable pub card : Unit {0}
+unfolding byte word orFault rowAt settingsFault faultOf checkSettings functionsFrom settingsFrom answerBy readCard
+card = tt
+
+unfoldable pub signal-parts : Unit {0}
+unfolding mainOlder nearOf mayIncrease increaseLit alongsideOlder alongsideAfter overrideOlder reminderOlder firstMet reminderMissed takesPress secondMet remindedOf answersOf windowOlder missedOf timeLeft
+signal-parts = tt
+
+unfoldable pub side-parts : Unit {0}
+unfolding fallenOf curveOf rowSpeed crossingOlder unprotectedSet protectedSet turnsAt turnedAt iconOf optionOlder limitSet steppedFinal limitSpeed mayStep removable
+side-parts = tt
+
+unfoldable pub desk : Unit {0}
+unfolding besideOlder deskOlder reminded mainCounts sideCounts mainMissed sideMissed advanced begun takenOver crossingSet limitNow modeChanged
+desk = tt
+
+unfoldable pub presses : Unit {0}
+unfolding chosen answeredBy mainAnswered sideAnswered pressed freeFor optionUsed limitRemoved reminderAnswered overrideArmed stopIncreased limitStepped crossingPressed limitPressed overridePressed increasePressed hidePressed windowPresses allPresses pressesOf
+presses = tt
+
+unfoldable pub beacons : Unit {0}
+unfolding readsOf mainOpened sideOpened reading1 readingRow optionOffered reading3 reading4 zoneMet reading7 stopped reading8 reading9 readingLimit readingOf readIf beaconTaken
+beacons = tt
+
+unfoldable pub sample : Unit {0}
+unfolding lowest standingCause braked windowLamps controlLamps lampsOf movedOf answerOf judgedOf stepOf crossingTurned mainSpeed btsLimit mainLimit alongsideLimit crossingLimit limitLimit lower supervisedOf
+sample = tt
+
+unfoldable pub session : Unit {0}
+unfolding besideInside deskInside openSession settingsInside insideOf refusedBy ranOf sampleOf typeSpeed typeAllowed
+session = tt
+
+unfoldable pub answers : Unit {0}
+unfolding card signal-parts side-parts desk presses beacons sample session
+answers = tt
