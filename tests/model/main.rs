@@ -1,4 +1,4 @@
-//! A model of document 01, written from its sentences alone, to compare other programs with. See tests/compare.
+//! A model of document 01, written from its sentences and readings alone, to compare other programs with. See tests/compare.
 
 mod answer;
 mod card;
