@@ -62,8 +62,9 @@ class Page:
         return ""
 
     def variant_sentence(self, suffix):
-        """The first sentence of what is said of a variant, without the file's name."""
-        return self.variant(suffix).partition(": ")[2].partition(". ")[0].removesuffix(".")
+        """The first sentence of what is said of a variant, without the file's name and the places of the sources."""
+        sentence = self.variant(suffix).partition(": ")[2].partition(". ")[0].removesuffix(".")
+        return re.sub(r" \(001:[^)]*\)", "", sentence)
 
     def prose(self):
         """The paragraphs that are no table, no list and no command."""
