@@ -76,8 +76,8 @@ def main(arguments):
     with open(recording, "rb") as given:
         status = ask.ride("ride", card, given)
     plain.say("\n" + "".join(line + "\n" for line in look_at(name)))
-    given = " < ".join(str(path.relative_to(desk.ROOT)) for path in (card, recording))
-    plain.say(f"\nAs a page:    ./tell {given}\nAs a drawing: ./picture {given} > target/ride.svg\n")
+    paths = " < ".join(str(path.relative_to(desk.ROOT)) for path in (card, recording))
+    plain.say(f"\nAs a page:    ./tell {paths}\nAs a drawing: ./picture {paths} > target/ride.svg\n")
     return status
 
 
