@@ -1,19 +1,19 @@
 """lesson.py [NAME]: prints a lesson's ride and what to look at in it; alone, the lessons there are."""
 
-import subprocess
 import sys
-import tempfile
 import textwrap
 
 import ask
 import desk
 import lessons
+import make
 import plain
+import script
 
 USAGE = """usage: ./lesson [NAME]
 
-Makes the bytes of a lesson, prints its ride as ./ride does, and under it what to look at. NAME is a lesson, as 02-approach-to-red
-or 2, or a variant of one, as 08-stop-zone-unanswered. Without NAME it lists them."""
+Makes the bytes of a lesson, target/lessons/NAME.rec and its card, prints its ride as ./ride does, and under it what to look at. NAME
+is a lesson, as 02-approach-to-red or 2, or a variant of one, as 08-stop-zone-unanswered. Without NAME it lists them."""
 
 WIDTH = 120
 
@@ -23,12 +23,14 @@ def listing():
     wide = max(map(len, every))
     yield "./lesson NAME, or the lesson's number, prints one."
     for name, folder in every.items():
-        if name == folder.name:
-            number = name.split("-")[0]
-            words = lessons.title(name)
-            yield f"{number if number.isdigit() else '':>2}  {name:{wide}}  {words.partition('. ')[2] or words}"
+        page, suffix = lessons.Page(folder), lessons.variant(name)
+        if suffix:
+            head, words = f"    {name:{wide}}    ", page.variant_sentence(suffix) or "a variant"
         else:
-            yield f"    {name:{wide}}    variant"
+            number = name.split("-")[0]
+            head = f"{number if number.isdecimal() else '':>2}  {name:{wide}}  "
+            words = page.fault or page.title.partition(". ")[2] or page.title
+        yield textwrap.fill(words, WIDTH, initial_indent=head, subsequent_indent=" " * len(head))
 
 
 def look_at(name):
@@ -36,28 +38,31 @@ def look_at(name):
     page = lessons.Page(lessons.rides()[name])
     suffix = lessons.variant(name)
     yield f"Lesson {lessons.title(name)}" if name[0].isdigit() else lessons.title(name)
+    if page.fault:
+        yield page.fault
+        return
     rows = [] if suffix else list(page.look_at())
     wide = max((len(n) for n, _ in rows), default=0)
     if rows:
         yield f"{'n':>{wide}}  look at"
     for n, words in rows:
         yield textwrap.fill(words, WIDTH, initial_indent=f"{n:>{wide}}  ", subsequent_indent=" " * (wide + 2))
-    for words in [page.variant(suffix)] if suffix else [] if rows else page.prose():
+    if suffix:
+        yield textwrap.fill(page.variant(suffix) or f"its README.md says nothing of ride{suffix}.txt", WIDTH)
+    for words in [] if suffix or rows else page.prose():
         yield textwrap.fill(words, WIDTH)
 
 
-def make(name):
-    """Makes the bytes of a ride: the files of its card and its recording."""
-    try:
-        lessons.FOLDER.mkdir(parents=True, exist_ok=True)
-        tempfile.TemporaryFile(dir=lessons.FOLDER).close()
-    except OSError as error:
-        raise plain.Ends(f"cannot write to {lessons.FOLDER}: {plain.reason(error)}") from None
-    made = subprocess.run([desk.ROOT / "lessons" / "make", name, lessons.FOLDER], stdout=subprocess.PIPE, text=True, check=False)
-    if made.returncode != 0:
-        raise plain.Ends
-    card = dict(line.split() for line in made.stdout.splitlines())[name]
-    return lessons.FOLDER / f"{card}.card", lessons.FOLDER / f"{name}.rec"
+def files(name):
+    """Makes the files of a ride: its card and its recording. The lesson's other rides may be at fault."""
+    path = lessons.rides()[name] / f"ride{lessons.variant(name)}.txt"
+    ride, *others = script.read_script(path, name)
+    if others or ride.name != name:
+        raise plain.Refused(f"{script.shown(path)}: ./lesson prints a script of one ride, without a line 'ride NAME'; "
+                            "give each ride a file, ride-VARIANT.txt")
+    script.stop_at_fault(ride)
+    make.write([ride], lessons.FOLDER)
+    return lessons.FOLDER / f"{ride.card.name}.card", lessons.FOLDER / f"{name}.rec"
 
 
 def main(arguments):
@@ -67,12 +72,12 @@ def main(arguments):
     if len(arguments) > 1:
         raise plain.Usage
     name = lessons.named(arguments[0])
-    card, recording = make(name)
+    card, recording = files(name)
     with open(recording, "rb") as given:
         status = ask.ride("ride", card, given)
     plain.say("\n" + "".join(line + "\n" for line in look_at(name)))
-    files = " < ".join(str(path.relative_to(desk.ROOT)) for path in (card, recording))
-    plain.say(f"\nAs a page:    ./tell {files}\nAs a drawing: ./picture {files} > ride.svg\n")
+    paths = " < ".join(str(path.relative_to(desk.ROOT)) for path in (card, recording))
+    plain.say(f"\nAs a page:    ./tell {paths}\nAs a drawing: ./picture {paths} > target/ride.svg\n")
     return status
 
 

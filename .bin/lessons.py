@@ -18,8 +18,7 @@ def named(word):
     if word in every:
         return word
     for name, folder in every.items():
-        number = folder.name.split("-")[0]
-        if name == folder.name and word.isdigit() and number.isdigit() and int(number) == int(word):
+        if name == folder.name and script.is_number_of(word, folder):
             return name
     raise plain.Ends(f"there is no lesson {word}; ./lesson alone lists them")
 
@@ -29,14 +28,24 @@ def variant(name):
     return name[len(rides()[name].name):]
 
 
+def read_page(path):
+    """The text of a lesson's README.md, and what is wrong with it, if something is."""
+    if not path.exists():
+        return "", "its README.md is missing"
+    try:
+        return script.text(path), ""
+    except (plain.Ends, plain.Refused) as why:
+        return "", str(why)
+
+
 class Page:
-    """A lesson's README.md, as plain text."""
+    """A lesson's README.md, as plain text. Where there is none the folder's name is the title."""
 
     def __init__(self, folder):
-        text = (folder / "README.md").read_text(encoding="utf-8")
+        text, self.fault = read_page(folder / "README.md")
         text = re.sub(r"\[([^]]*)\]\([^)]*\)|\*\*|`", r"\1", re.sub(r"(?ms)^```.*?^```\n", "", text))
         head, _, self.body = text.partition("\n")
-        self.title = head.lstrip("# ").strip()
+        self.title = head.lstrip("# ").strip() or folder.name
 
     def look_at(self):
         """The table of what to look at: the samples and the words of each row."""
@@ -52,10 +61,15 @@ class Page:
                 return " ".join(entry[2:].split())
         return ""
 
+    def variant_sentence(self, suffix):
+        """The first sentence of what is said of a variant, without the file's name and the places of the sources."""
+        sentence = self.variant(suffix).partition(": ")[2].partition(". ")[0].removesuffix(".")
+        return re.sub(r" \(001:[^)]*\)", "", sentence)
+
     def prose(self):
-        """The paragraphs that are no table and no list."""
+        """The paragraphs that are no table, no list and no command."""
         parts = (" ".join(part.split()) for part in self.body.split("\n\n"))
-        return [part for part in parts if part and not part.startswith(("|", "- "))]
+        return [part for part in parts if part and not part.startswith(("|", "- ", "After ./lesson "))]
 
 
 def title(name):

@@ -1,9 +1,10 @@
-"""Reads what a teacher writes: card texts, ride scripts and expected lines. Used by make and check.
+"""Reads what a teacher writes: card texts, ride scripts and expected lines. Used by make, check, page and ./lesson.
 
-lessons/README.md describes the notation. Of the desk's rules this knows one thing only: which ride the desk refuses, and
-at which line of the script, so that a slip is told before the ride is made.
+lessons/README.md describes the notation. Of the desk's rules this knows one thing only: which card and which ride the desk
+refuses, and at which line of the script, so that a slip is told before the ride is made.
 """
 
+import codecs
 import dataclasses
 import fractions
 import pathlib
@@ -26,19 +27,34 @@ TYPES = [80, 90, 100, 120, 140, 160, 180, 200]  # km/h, types 1 to 8
 MOST_SAMPLES = 10_000
 MOST_TRAVEL = 100_000  # tenths of a millimetre in a sample
 EXTRA = ("icon", "standing")
+RECORD = {1: 39, 2: 44}  # a card's length by its version
+ROWS = [
+    "conditional clear", "stop announcement", "preannouncement", "caution", "before-stop", "unprotected crossing", "limit", "start",
+]
+REMINDER = 4  # its bit of the card's functions
+
+WHAT_NAMES = "lessons/README.md lists the lessons, and a script's name ends in .txt"
 
 
 @dataclasses.dataclass
 class Card:
-    """A card: its name, with what is changed in it, and its bytes."""
+    """A card: its name, with what is changed in it, its bytes, and its line in the script."""
     name: str
     data: bytes
+    line: int
+
+    def number(self, place):
+        """The two bytes at a place."""
+        return int.from_bytes(self.data[place:place + 2], "big")
+
+    def version(self):
+        return self.data[2]
 
     def vmax(self):
         return self.data[3]
 
     def tick(self):
-        return int.from_bytes(self.data[4:6], "big")
+        return self.number(4)
 
 
 @dataclasses.dataclass
@@ -53,6 +69,7 @@ class Ride:
     sample_lines: list = dataclasses.field(default_factory=list)
     expected: list = dataclasses.field(default_factory=list)
     refused: int = None
+    refused_line: int = 1
 
 
 # ---- texts
@@ -68,15 +85,21 @@ def stop(path, number, why):
     raise plain.Refused(f"{shown(path)}:{number}: {why}")
 
 
-def lines(path):
-    """The lines of a text that say something: number and words, comments gone."""
+def text(path):
+    """A file as text: UTF-8, with a mark before it or without, or what the mark of UTF-16 stands before."""
     try:
-        text = path.read_text(encoding="utf-8")
+        data = path.read_bytes()
     except OSError as error:
         raise plain.Ends(f"cannot read {shown(path)}: {plain.reason(error)}") from None
+    try:
+        return data.decode("utf-16" if data.startswith((codecs.BOM_UTF16_LE, codecs.BOM_UTF16_BE)) else "utf-8-sig")
     except UnicodeDecodeError:
-        raise plain.Refused(f"{shown(path)}: it is no text") from None
-    for number, line in enumerate(text.splitlines(), 1):
+        raise plain.Refused(f"{shown(path)}: it is no text in UTF-8") from None
+
+
+def lines(path):
+    """The lines of a text that say something: number and words, comments gone."""
+    for number, line in enumerate(text(path).splitlines(), 1):
         words = line.split("#", 1)[0].split()
         if words:
             yield number, words
@@ -95,13 +118,13 @@ def whole(path, number, word, low, high):
 
 # ---- cards
 
-def card_path(name):
-    return HERE / "cards" / f"{name}.hex"
+def card_texts():
+    """The texts of the cards, by their names."""
+    return {path.stem: path for path in sorted((HERE / "cards").glob("*.hex"))}
 
 
-def card_bytes(name):
+def card_bytes(path):
     """The bytes of a card text."""
-    path = card_path(name)
     out = bytearray()
     for number, words in lines(path):
         try:
@@ -113,10 +136,10 @@ def card_bytes(name):
 
 def read_card(path, number, words):
     """`NAME [PLACE=VALUE ..]`: a card, with the bytes at those places changed."""
-    name = words[0]
-    if not card_path(name).exists():
-        stop(path, number, f"there is no card {name}")
-    data = bytearray(card_bytes(name))
+    name, texts = words[0], card_texts()
+    if name not in texts:
+        stop(path, number, f"there is no card {name}; lessons/cards has {', '.join(texts)}")
+    data = bytearray(card_bytes(texts[name]))
     if len(data) < 6:
         stop(path, number, f"card {name} has no tick length: it is {len(data)} bytes")
     for word in words[1:]:
@@ -125,7 +148,7 @@ def read_card(path, number, words):
             stop(path, number, f"'{word}' is no change of a card: PLACE=VALUE")
         place = whole(path, number, place, 0, len(data) - 1)
         data[place] = whole(path, number, value, 0, 255)
-    return Card("-".join(words).replace("=", "-"), bytes(data))
+    return Card("-".join(words).replace("=", "-"), bytes(data), number)
 
 
 # ---- a line of samples
@@ -138,10 +161,21 @@ NAMES = {
 HIGH = {"press": 15, "beacon": 255, "mode": 255}  # what a recording has room for
 
 
+def out_of_range(kind, value):
+    """What is said of a button, beacon or mode that there is not."""
+    if kind == "press":
+        return f"button {value}: the buttons are 0 to {len(BUTTONS) - 1}"
+    if kind == "beacon":
+        return f"beacon {value}: the beacons are 1 to {BEACONS}, and 0 is none"
+    return f"mode {value}: the modes are {CONV} (CONV) and {BTS} (BTS)"
+
+
 def named(path, number, kind, word):
     """The number that a word says, or that of the name which it is."""
-    if word.isdigit():
-        return whole(path, number, word, 0, HIGH[kind])
+    if word.isdecimal():
+        if len(word.lstrip("0")) > 3 or int(word) > HIGH[kind]:
+            stop(path, number, out_of_range(kind, word))
+        return int(word)
     for name, value in NAMES[kind].items():
         if word.lower() == name.lower():
             return value
@@ -192,6 +226,17 @@ def kmh(path, number, word):
         stop(path, number, f"'{word}' is no speed")
 
 
+def speed_words(words):
+    """The words of a line with `km/h` by itself: 36km/h and 36 KM/H are 36 km/h."""
+    apart = []
+    for word in words:
+        if word.lower().endswith("km/h"):
+            apart += [word[:-4], "km/h"] if word[:-4] else ["km/h"]
+        else:
+            apart.append(word)
+    return apart
+
+
 def steady(path, number, words, card):
     """`SAMPLES SPEED`: the pulses of each sample, and the words behind."""
     if not words[0].lstrip("-").isdigit():
@@ -208,7 +253,7 @@ def ramp(path, number, words, card):
     """`FROM TO STEP [km/h] HOLD`: FROM, FROM + STEP, .. short of TO, HOLD samples each, and the words behind."""
     in_kmh = words[3:4] == ["km/h"]
     held = words[4:] if in_kmh else words[3:]
-    if not held:
+    if not held or "km/h" in words[:3]:
         stop(path, number, "a ramp is: ramp FROM TO STEP HOLD, or ramp FROM TO STEP km/h HOLD")
     if in_kmh:
         start, end, step = (kmh(path, number, word) for word in words[:3])
@@ -264,7 +309,7 @@ def read_head(ride, number, words):
     elif word == "type":
         ride.kind, ride.kind_line = whole(ride.path, number, rest[0], 0, 255), number
     elif word == "refused":
-        ride.refused = whole(ride.path, number, rest[0], 1, 14)
+        ride.refused, ride.refused_line = whole(ride.path, number, rest[0], 1, 14), number
     else:
         ride.expected.append(read_expected(ride.path, number, rest))
     return True
@@ -272,6 +317,7 @@ def read_head(ride, number, words):
 
 def read_samples(ride, number, words):
     """A line of samples: beacon and presses hold in the first of them, the mode in all."""
+    words = speed_words(words)
     if words[0] == "ramp":
         speeds, rest = ramp(ride.path, number, words[1:], ride.card)
     else:
@@ -285,6 +331,8 @@ def read_samples(ride, number, words):
 def read_script(path, name, expected=None):
     """The rides of a script. A line `ride NAME` begins a ride, and what stands above the first one holds for all; a script
     without such a line is one ride. The file of expected lines, if there is one, belongs to that."""
+    if name.split() != [name]:
+        raise plain.Refused(f"{shown(path)}: '{name}': a ride's name has no blanks")
     head = Ride(name, path)
     rides = []
     for number, words in lines(path):
@@ -292,6 +340,8 @@ def read_script(path, name, expected=None):
         if words[0] == "ride":
             if len(words) != 2:
                 stop(path, number, "'ride' takes one word, the ride's name")
+            if "/" in words[1]:
+                stop(path, number, f"'{words[1]}': a ride's name has no '/'")
             if head.samples or head.expected or head.refused:
                 stop(path, number, "above the first 'ride' only card and type may stand")
             new = f"{name}-{words[1]}"
@@ -312,24 +362,61 @@ def read_script(path, name, expected=None):
 
 # ---- what the desk refuses
 
+def settings(card):
+    """The settings of a card as (place, name, value, lowest, highest), by their places."""
+    data = card.data
+    yield 3, "vmax", card.vmax(), 80, 200
+    yield 4, "tick length", card.tick(), 10, 1000
+    yield 6, "BTS speed", data[6], 1, 200
+    for row, name in enumerate(ROWS):
+        at = 7 + 4 * row
+        yield at, f"{name}, initial", data[at], 1, 200
+        yield at + 1, f"{name}, final", data[at + 1], 1, data[at]
+        yield at + 3, f"{name}, drop", data[at + 3], 1, 255
+    if card.version() == 2:
+        yield 39, "functions", data[39], 0, 15
+        if data[39] & REMINDER:
+            yield 40, "reminder X", card.number(40), 2, 6000
+            yield 42, "reminder Y", card.number(42), 1, 5000
+
+
+def card_fault(card):
+    """What the desk refuses in a card, as (number, sentence), or None."""
+    version, length = card.version(), card.number(0)
+    if version not in RECORD:
+        return 3 if version else 2, f"card {card.name}: byte 2, version, is {version}, must be 1 or 2"
+    if length != RECORD[version]:
+        return 4, f"card {card.name}: byte 0, length, is {length}, must be {RECORD[version]} in version {version}"
+    if len(card.data) < length:
+        return 1, f"card {card.name} has {len(card.data)} bytes, must have {length}"
+    for place, name, value, low, high in settings(card):
+        if not low <= value <= high:
+            return 5, f"card {card.name}: byte {place}, {name}, is {value}, must be {low}..{high}"
+    return None
+
+
 def sample_fault(card, before, sample):
     """What the desk refuses in a sample after one of mode `before`, as (number, sentence), or None."""
     p, beacon, mask, mode = sample
     if beacon > BEACONS:
-        return 9, f"beacon {beacon}: the beacons are 1 to {BEACONS}, and 0 is none"
+        return 9, out_of_range("beacon", beacon)
     if mask >> len(BUTTONS):
-        return 9, f"button {mask.bit_length() - 1}: the buttons are 0 to {len(BUTTONS) - 1}"
+        return 9, out_of_range("press", mask.bit_length() - 1)
     if mode not in (CONV, BTS):
-        return 9, f"mode {mode}: the modes are 1 (CONV) and 2 (BTS)"
+        return 9, out_of_range("mode", mode)
     if p * card.tick() > MOST_TRAVEL:
         return 10, f"{p} pulses are too many: on card {card.name} a sample has at most {MOST_TRAVEL // card.tick()}"
     if mode != before and p:
-        return 11, f"the mode changes in a sample with {p} pulses: it can change only while standing"
+        why = f"the mode changes in a sample with {p} pulses: it can change only while standing"
+        return 11, f"{why}, and a line without mode is CONV" if mode == CONV else why
     return None
 
 
 def fault(ride):
     """The desk's first refusal of a ride, as (number, line of the script, samples before it, sentence), or None."""
+    found = card_fault(ride.card)
+    if found is not None:
+        return found[0], ride.card.line, 0, found[1]
     if len(ride.samples) > MOST_SAMPLES:
         line = ride.sample_lines[MOST_SAMPLES]
         return 14, line, 0, f"the ride has {len(ride.samples)} samples: a recording holds {MOST_SAMPLES}"
@@ -348,11 +435,18 @@ def fault(ride):
 
 
 def stop_at_fault(ride):
-    """Ends the program where the desk would refuse the ride, unless the script says that it is meant."""
+    """Ends the program where the desk would refuse the ride and the script does not say that this is meant, and where the script says
+    so and the desk would not."""
     found = fault(ride)
-    if found is not None and ride.refused is None:
-        number, line, _, why = found
+    if found is None:
+        if ride.refused is not None:
+            stop(ride.path, ride.refused_line, f"the script says refused {ride.refused}, and the desk refuses nothing here")
+        return
+    number, line, _, why = found
+    if ride.refused is None:
         stop(ride.path, line, f"{why}. The desk refuses it; if that is meant, add the line: refused {number}")
+    if ride.refused != number:
+        stop(ride.path, line, f"{why}. The desk refuses it by {number}; the script says refused {ride.refused}")
 
 
 # ---- which rides there are
@@ -366,22 +460,41 @@ def lessons():
     return found
 
 
-def is_known(name):
-    """Is this `all`, a lesson, one of its rides, or a script?"""
-    return name == "all" or name.endswith(".txt") or any(name in (ride, path.parent.name) for ride, path, _ in lessons())
+def is_number_of(word, folder):
+    """Is this word the number of the lesson in a folder? 2 and 02 are that of 02-approach-to-red."""
+    number = folder.name.split("-")[0]
+    return word.isdecimal() and number.isdecimal() and word.lstrip("0") == number.lstrip("0")
+
+
+def means(word, name, folder):
+    """Does a word mean the ride of this name, in this folder?"""
+    return word in ("all", name, folder.name) or is_number_of(word, folder)
+
+
+def is_known(word):
+    """Is this `all`, a lesson, its number, one of its rides, or a script?"""
+    return word.endswith(".txt") or any(means(word, name, path.parent) for name, path, _ in lessons())
 
 
 def rides(names):
-    """The rides that are named: `all` the lessons, a lesson by its folder, one of its rides, or a script by its path."""
+    """The rides that are named: `all` the lessons, a lesson by its folder or number, one of its rides, or a script by its path. Ends the
+    program at the first fault of one of them."""
+    found = read_rides(names)
+    for ride in found:
+        stop_at_fault(ride)
+    return found
+
+
+def read_rides(names):
     found = []
     for wanted in names:
         if wanted.endswith(".txt"):
             path = pathlib.Path(wanted)
             found += read_script(path, path.stem)
             continue
-        chosen = [lesson for lesson in lessons() if wanted in ("all", lesson[0], lesson[1].parent.name)]
+        chosen = [lesson for lesson in lessons() if means(wanted, lesson[0], lesson[1].parent)]
         if not chosen:
-            raise plain.Ends(f"there is no lesson {wanted}; lessons/README.md lists them")
+            raise plain.Ends(f"there is no lesson {wanted}; {WHAT_NAMES}")
         for name, path, expected in chosen:
             found += read_script(path, name, expected)
     return found

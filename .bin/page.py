@@ -1,0 +1,39 @@
+"""page.py NAME..: prints what a lesson's README.md shows of a ride, from the answers of the independent model."""
+
+import pathlib
+import shutil
+import subprocess
+import sys
+import tempfile
+
+import desk
+import make
+import plain
+import programs
+import script
+import tell
+
+USAGE = """usage: lessons/page NAME.., or lessons/page all
+
+Prints what a lesson's README.md shows of a ride: the command `./tell ..` and, below it, the page. What a README stores is not made by
+the program that it judges: here the answers are those of the independent model (tests/model, built with rustc), in place of `trace`.
+A NAME is one that lessons/make takes."""
+
+
+def main(names):
+    if not names:
+        raise plain.Usage
+    if not shutil.which("rustc"):
+        raise plain.Ends("rustc is missing; README.md says what must be there")
+    rides = script.rides(names)
+    with tempfile.TemporaryDirectory() as name:
+        folder = pathlib.Path(name)
+        subprocess.run(["rustc", "-o", folder / "model", desk.ROOT / "tests" / "model" / "main.rs"], check=True)
+        programs.command = lambda _: [folder / "model", "run"]
+        for ride in rides:
+            page = tell.page(desk.Ride(ride.card.data, make.recording(ride)))
+            plain.say("\n".join([f"$ ./tell target/lessons/{ride.card.name}.card < target/lessons/{ride.name}.rec", *page, "", ""]))
+    return 0
+
+
+plain.run("page", USAGE, main, sys.argv[1:], script.STATUS)
