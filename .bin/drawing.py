@@ -52,7 +52,7 @@ def hatch(name, size, lines, width, ink, ground="#fff"):
 
 HATCHES = [
     hatch("band", 6, "M-1,1 L1,-1 M0,6 L6,0 M5,7 L7,5", 0.9, "#6f87a8", "#eef1f6"),
-    hatch("braked", 5, "M0,0 V5", 1.2, "#9a9a9a", "none"),  # the band is seen through it
+    hatch("braked", 5, "M2.5,0 V5", 0.8, "#9a9a9a", "none"),  # the band is seen through it
     hatch("protected", 5, "M-1,4 L1,6 M0,0 L5,5 M4,-1 L6,1", 1.2, INK),
     hatch("standing", 4, "M0,2 H4", 1, INK),
     hatch("bts", 5, "M0,2.5 H5 M2.5,0 V5", 0.8, INK),
@@ -100,7 +100,8 @@ class Drawing:
         self.add(f'<rect x="{x1:.1f}" y="{y1:.1f}" width="{x2 - x1:.1f}" height="{y2 - y1:.1f}" class="{kind}"/>', layer)
 
     def triangle(self, x, y):
-        self.add(f'<path d="M{x:.1f},{y - 5:.1f} l4.5,9 h-9 z" class="mark"/>')
+        """A mark that points up to a place."""
+        self.add(f'<path d="M{x:.1f},{y:.1f} l4,8 h-8 z" class="mark"/>')
 
     def diamond(self, x, y):
         self.add(f'<path d="M{x:.1f},{y - 5:.1f} l5,5 l-5,5 l-5,-5 z" class="mark"/>')

@@ -16,6 +16,7 @@ distance travelled. The title is the lesson's where the recording's file has a l
 
 CHART = 330  # the height of the speeds
 LANE, BAR = 19, 11  # the height of a row below them, and of its bars
+PRESS = 8  # from the foot of a row to where the mark of a press points: a short lamp is seen above it
 BAND = 5  # km/h above the limit; beyond it the brake comes on
 JUMP = 3  # km/h; a change beyond it is drawn upright
 NARROW = 1.5  # the least width of a bar
@@ -222,7 +223,7 @@ class Picture:
                 self.lane(top, name)
                 self.bars(top, lamps, {1: "lit"})
                 for x in sorted({round(x / 2) * 2: x for x in presses}.values()):  # of presses in one place one is seen
-                    self.drawing.triangle(x, top + LANE - 3 - BAR / 2)
+                    self.drawing.triangle(x, top + LANE - PRESS)
                 top += LANE
             lit, pressed = lit or any(lamps), pressed or bool(presses)
         self.legend += [("lit", "lamp lit")] * lit + [("press", "button pressed")] * pressed
@@ -271,7 +272,7 @@ class Picture:
         if kind in ("speed", "limit", "beacon"):
             draw.line(x, y - 4, x + 26, y - 4, kind)
         elif kind == "press":
-            draw.triangle(x + 13, y - 4)
+            draw.triangle(x + 13, y - 8)
         elif kind == "stands":
             draw.diamond(x + 13, y - 4)
         elif kind:
