@@ -158,13 +158,14 @@ def range_fault(sample):
 
 def travel_fault(card, sample):
     """Refusal 10."""
-    travel = f"{sample.pulses} pulses x tick length {card.tick} = {card.travel(sample.pulses):,}" if card else None
-    return travel and f"{travel}, at most {script.MOST_TRAVEL:,}"
+    if not card:
+        return None
+    return f"{sample.pulses} pulses x tick length {card.tick} = {card.travel(sample.pulses):,}, at most {script.MOST_TRAVEL:,}"
 
 
 def mode_fault(before, sample):
     """Refusal 11."""
-    return f"mode changes from {MODES[before]} to {MODES[sample.mode]} in a sample with {sample.pulses} pulses, must have none"
+    return f"mode changes from {MODES[before]} to {MODES[sample.mode]} in a sample with pulses: has {sample.pulses}, must have 0"
 
 
 def recording_fault(recording):
@@ -194,18 +195,19 @@ def sample_fault(number, answered, card, recording):
 
 
 def fault(number, answered, card, recording):
-    """What in these bytes the refusal is about, None where they do not tell."""
-    known = Card.of(card) if card else None
+    """What in these bytes the refusal is about, None where they do not tell; of a card show_card says it."""
+    if number in OF_CARD:
+        return None
     if number == OF_RECORDING:
         return recording_fault(recording)
-    if number == OF_TYPE:
-        return type_fault(known, recording[HEAD - 1])
-    return sample_fault(number, answered, known, recording) if number in OF_SAMPLE else None
+    read = Card.of(card) if card else None
+    return type_fault(read, recording[HEAD - 1]) if number == OF_TYPE else sample_fault(number, answered, read, recording)
 
 
 def refusal_words(number, answered, card, recording):
     """A refusal of a ride of which so many samples were answered: what is at fault where its bytes are there, else the table's words."""
-    words = recording is not None and fault(number, answered, card, recording) or REFUSALS.get(number, "")
+    found = None if recording is None else fault(number, answered, card, recording)
+    words = found or REFUSALS.get(number, "")
     return f"sample {answered + 1}: {words}" if number in OF_SAMPLE else words
 
 

@@ -64,9 +64,12 @@ def why_unreadable(name):
 
 def lent(data):
     """A file with these bytes, for a program that reads one; it is gone behind its block."""
-    file = tempfile.NamedTemporaryFile()
-    file.write(data)
-    file.flush()
+    try:
+        file = tempfile.NamedTemporaryFile()
+        file.write(data)
+        file.flush()
+    except OSError as error:
+        raise plain.Ends(f"cannot write a temporary file: {plain.reason(error)}") from None
     return file
 
 
