@@ -17,25 +17,35 @@ Prints the ride as ./ride does, with two more columns: the crossing icon (0 none
 stands (0, 1).""",
     "show_card": """usage: ./show_card FILE
 
-Lists the settings of the card in FILE, or says why it is refused. bench/unhex makes bytes of a hex dump.""",
+Lists the settings of the card in FILE, or says why it is refused. Where FILE is - the card comes on standard input. bench/unhex makes
+bytes of a hex dump.""",
 }
 
 
 def ride(name, card, given=None):
     """Prints the ride of a recording, standard input where no other is given; a refusal is said in words too. Gives the status."""
+    recording = given.fileno() if given else 0
+    start = plain.place(recording)
     heard = programs.pass_on(name, [card], given)
     if heard.refusal:
-        number = int(heard.refusal.split()[1])
-        desk.say_refusal(number, heard.lines - 2)  # the heading and the refusal are lines too
-        desk.say_if_text(number, plain.read_again(card), plain.read_again(given.name if given else "/dev/stdin"))
+        answered = heard.lines - 2  # the heading and the refusal are lines too
+        desk.say_refusal(int(heard.refusal.split()[1]), answered, plain.read_again(card), plain.read_from(recording, start))
     return heard.status()
+
+
+def show_card(card):
+    """Lists a card. Gives the status."""
+    if card != "-":
+        return programs.pass_on("show_card", [card]).status()
+    with programs.lent(plain.standard_input("card", USAGES["show_card"], plain.MOST + 1)) as area:
+        return programs.pass_on("show_card", [area.name]).status()
 
 
 def main(name, arguments):
     if len(arguments) != 1:
         raise plain.Usage
     if name == "show_card":
-        return programs.pass_on(name, arguments).status()
+        return show_card(*arguments)
     plain.check_input("recording", USAGES[name])
     return ride(name, arguments[0])
 

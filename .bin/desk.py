@@ -3,7 +3,6 @@ a recording and the lines of `trace`. Nothing here decides what the desk answers
 
 import pathlib
 import sys
-import tempfile
 from typing import NamedTuple
 
 import plain
@@ -46,28 +45,10 @@ REFUSALS = {
     14: "recording not exactly as long as stated, length not 6 + 6n with n ≤ 10,000, or version not 1",
 }
 OF_CARD = range(1, 7)
+CARD_HINT = "show_card says more"
+OF_TYPE = 7
 OF_SAMPLE = range(8, 12)
 OF_RECORDING = 14
-
-
-def refusal_words(number, answered):
-    """A refusal of a ride of which so many samples were answered."""
-    words = REFUSALS.get(number, "")
-    return f"sample {answered + 1}: {words}" if number in OF_SAMPLE else words
-
-
-def say_refusal(number, answered):
-    """Says the refusal of a ride on standard error, in words."""
-    more = "; show_card says more" if number in OF_CARD else ""
-    plain.complain(f"ride refused: {refusal_words(number, answered)} (refusal {number}{more})")
-
-
-def say_if_text(number, card, recording):
-    """Says on standard error that the bytes by which a ride was refused are a text."""
-    if number in OF_CARD:
-        plain.say_if_text("card", card)
-    elif number == OF_RECORDING:
-        plain.say_if_text("recording", recording)
 
 
 def names(mask):
@@ -128,9 +109,7 @@ class Ride:
 
     def __init__(self, card, recording):
         self.given = card, recording
-        with tempfile.NamedTemporaryFile() as area:
-            area.write(card)
-            area.flush()
+        with programs.lent(card) as area:
             _, *lines = programs.answer("trace", [area.name], recording)
         self.refusal = int(lines.pop().split()[1]) if lines and lines[-1].startswith("refused ") else None
         self.answers = [Answer(*map(int, line.split()[1:])) for line in lines]
@@ -154,8 +133,100 @@ class Ride:
 
     def why(self):
         """The refusal in words."""
-        return refusal_words(self.refusal, len(self.answers))
+        return refusal_words(self.refusal, len(self.answers), *self.given)
 
+
+# ---- why a ride was refused, which the desk has decided
+
+def type_fault(card, kind):
+    """Refusal 7."""
+    if not 1 <= kind < len(TYPES):
+        return f"train type {kind}, must be 1..{len(TYPES) - 1}"
+    return f"train type {kind} runs {TYPES[kind]} km/h, the card's vmax is {card.vmax}" if card else None
+
+
+def range_fault(sample):
+    """Refusal 9: each of the three that is out of its range."""
+    highest = sample.buttons.bit_length() - 1
+    faults = [
+        f"beacon {sample.beacon}, must be 0..{len(BEACONS) - 1}" if sample.beacon >= len(BEACONS) else None,
+        f"button {highest}, must be 0..{len(BUTTONS) - 1}" if highest >= len(BUTTONS) else None,
+        f"mode {sample.mode}, must be 1 or 2" if sample.mode not in MODES else None,
+    ]
+    return "; ".join(filter(None, faults))
+
+
+def travel_fault(card, sample):
+    """Refusal 10."""
+    if not card:
+        return None
+    return f"{sample.pulses} pulses x tick length {card.tick} = {card.travel(sample.pulses):,}, at most {script.MOST_TRAVEL:,}"
+
+
+def mode_fault(before, sample):
+    """Refusal 11."""
+    return f"mode changes from {MODES[before]} to {MODES[sample.mode]} in a sample with pulses: has {sample.pulses}, must have 0"
+
+
+def recording_fault(recording):
+    """Refusal 14: the first of its reasons. Of a recording that is too long no more than its beginning is there."""
+    has, stated = len(recording), int.from_bytes(recording[:4], "big")
+    if has < HEAD:
+        return f"recording has {has} bytes, must have {HEAD} or more" if has else "recording is empty"
+    count, rest = divmod(stated - HEAD, 6)
+    if stated > MOST and has > MOST and not rest:
+        return f"recording states {count:,} samples, at most {script.MOST_SAMPLES:,}"
+    if stated != has:
+        return f"recording states {stated:,} bytes, has {f'{has:,}' if has <= MOST else f'more than {MOST:,}'}"
+    if rest:
+        return f"recording has {has:,} bytes, must have {HEAD} and 6 for each sample"
+    return f"recording version {recording[4]}, must be 1" if recording[4] != 1 else None
+
+
+def sample_fault(number, answered, card, recording):
+    """A refusal of the sample behind those that were answered."""
+    at = HEAD + 6 * answered
+    sample = Sample.of(recording[at:at + 6])
+    if number == 9:
+        return range_fault(sample)
+    if number == 10:
+        return travel_fault(card, sample)
+    return mode_fault(recording[at - 1] if answered else 1, sample) if number == 11 else None
+
+
+def fault(number, answered, card, recording):
+    """What in these bytes the refusal is about, None where they do not tell; of a card show_card says it."""
+    if number in OF_CARD:
+        return None
+    if number == OF_RECORDING:
+        return recording_fault(recording)
+    read = Card.of(card) if card else None
+    return type_fault(read, recording[HEAD - 1]) if number == OF_TYPE else sample_fault(number, answered, read, recording)
+
+
+def refusal_words(number, answered, card, recording):
+    """A refusal of a ride of which so many samples were answered: what is at fault where its bytes are there, else the table's words."""
+    found = None if recording is None else fault(number, answered, card, recording)
+    words = found or REFUSALS.get(number, "")
+    return f"sample {answered + 1}: {words}" if number in OF_SAMPLE else words
+
+
+def say_refusal(number, answered, card, recording):
+    """Says the refusal of a ride on standard error, in words."""
+    more = f"; {CARD_HINT}" if number in OF_CARD else ""
+    plain.complain(f"ride refused: {refusal_words(number, answered, card, recording)} (refusal {number}{more})")
+    say_if_text(number, card, recording)
+
+
+def say_if_text(number, card, recording):
+    """Says on standard error that the bytes by which a ride was refused are a text."""
+    if number in OF_CARD:
+        plain.say_if_text("card", card)
+    elif number == OF_RECORDING:
+        plain.say_if_text("recording", recording or b"")
+
+
+# ---- given, and told
 
 def given_ride(card, usage):
     """The ride of the recording on standard input, on the card in a file."""

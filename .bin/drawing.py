@@ -2,8 +2,9 @@
 other. Nothing is told by colour alone: lines differ by their dashes, areas by their hatching."""
 
 import itertools
+import re
 from typing import NamedTuple, Optional
-from xml.sax.saxutils import escape
+from xml.sax import saxutils
 
 WIDTH, LEFT, RIGHT = 1120, 150, 24  # the whole drawing; the columns of names and of nothing beside the plot
 TEXT, SMALL, TITLE = 12, 11, 20
@@ -33,6 +34,7 @@ text {{ font-family: "Liberation Sans", Arial, Helvetica, "DejaVu Sans", sans-se
 .protected {{ fill: url(#protected); stroke: {INK}; stroke-width: 0.8; }}
 .unprotected {{ fill: #555; stroke: {INK}; stroke-width: 0.8; }}
 .standing {{ fill: url(#standing); stroke: {INK}; stroke-width: 0.8; }}
+.bts {{ fill: url(#bts); stroke: {INK}; stroke-width: 0.8; }}
 .mark {{ fill: {INK}; stroke: #fff; stroke-width: 0.8; }}
 .lead {{ stroke: {INK}; stroke-width: 0.8; }}
 .beacon {{ stroke: #666; stroke-width: 0.9; stroke-dasharray: 2 3; }}
@@ -50,13 +52,19 @@ def hatch(name, size, lines, width, ink, ground="#fff"):
 
 HATCHES = [
     hatch("band", 6, "M-1,1 L1,-1 M0,6 L6,0 M5,7 L7,5", 0.9, "#6f87a8", "#eef1f6"),
-    hatch("braked", 5, "M0,0 V5", 1.2, "#c4c4c4"),
+    hatch("braked", 5, "M2.5,0 V5", 0.8, "#9a9a9a", "none"),  # the band is seen through it
     hatch("protected", 5, "M-1,4 L1,6 M0,0 L5,5 M4,-1 L6,1", 1.2, INK),
     hatch("standing", 4, "M0,2 H4", 1, INK),
+    hatch("bts", 5, "M0,2.5 H5 M2.5,0 V5", 0.8, INK),
 ]
 
 # From the paper up.
 GROUND, NET, LINES, FRONT = range(4)
+
+
+def escape(text):
+    """A text as it stands in an SVG. What no XML may have is a blank: control characters, bytes that were no text."""
+    return saxutils.escape(re.sub("[\x00-\x1f\x7f-\x9f\ud800-\udfff\ufffe\uffff]", " ", text))
 
 
 def width_of(text, size=SMALL):
@@ -92,7 +100,8 @@ class Drawing:
         self.add(f'<rect x="{x1:.1f}" y="{y1:.1f}" width="{x2 - x1:.1f}" height="{y2 - y1:.1f}" class="{kind}"/>', layer)
 
     def triangle(self, x, y):
-        self.add(f'<path d="M{x:.1f},{y - 5:.1f} l4.5,9 h-9 z" class="mark"/>')
+        """A mark that points up to a place."""
+        self.add(f'<path d="M{x:.1f},{y:.1f} l4,8 h-8 z" class="mark"/>')
 
     def diamond(self, x, y):
         self.add(f'<path d="M{x:.1f},{y - 5:.1f} l5,5 l-5,5 l-5,-5 z" class="mark"/>')

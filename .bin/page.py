@@ -7,6 +7,7 @@ import sys
 import tempfile
 
 import desk
+import lessons
 import make
 import plain
 import programs
@@ -31,7 +32,8 @@ def main(names):
         subprocess.run(["rustc", "-o", folder / "model", desk.ROOT / "tests" / "model" / "main.rs"], check=True)
         programs.command = lambda _: [folder / "model", "run"]
         for ride in rides:
-            page = tell.page(desk.Ride(ride.card.data, make.recording(ride)))
+            answered = desk.Ride(ride.card.data, make.recording(ride))
+            page = tell.page(answered, lessons.title_of_recording(pathlib.Path(f"{ride.name}.rec")))
             plain.say("\n".join([f"$ ./tell target/lessons/{ride.card.name}.card < target/lessons/{ride.name}.rec", *page, "", ""]))
     return 0
 

@@ -1,12 +1,11 @@
 """picture.py [--distance] [--title TITLE] CARD < RECORDING: draws a ride as one SVG that needs nothing beside it."""
 
 import itertools
-import pathlib
 import sys
 
 import desk
-import lessons
 import plain
+import titles
 from drawing import GROUND, LEFT, LINE, LINES, NET, RIGHT, WIDTH, Drawing, Scale, marks, path, placed, runs, step_for, thinned, width_of
 
 USAGE = """usage: ./picture [--distance] [--title TITLE] CARD < RECORDING > ride.svg
@@ -17,6 +16,7 @@ distance travelled. The title is the lesson's where the recording's file has a l
 
 CHART = 330  # the height of the speeds
 LANE, BAR = 19, 11  # the height of a row below them, and of its bars
+PRESS = 8  # from the foot of a row to where the mark of a press points: a short lamp is seen above it
 BAND = 5  # km/h above the limit; beyond it the brake comes on
 JUMP = 3  # km/h; a change beyond it is drawn upright
 NARROW = 1.5  # the least width of a bar
@@ -209,7 +209,7 @@ class Picture:
             foot = top + LANE + 9 + LINE * label.row
             draw.line(label.mark, top + LANE - 3, label.mark, foot, "lead")
             draw.text(label.start + 3, foot, label.words)
-        self.legend += [("brake", "brake on" + counted(len(shown), len(found))), ("braked", "the same, behind the speeds")]
+        self.legend += [("brake", "brake on" + counted(len(shown), len(found))), ("braked", "brake on, behind the speeds")]
         self.legend += [(None, f"cause {cause}: {desk.CAUSES[cause]}") for cause in sorted(set(causes) - {0})]
         return top + LANE + LINE * (max((label.row for label in shown), default=0) + 1) + 2
 
@@ -223,7 +223,7 @@ class Picture:
                 self.lane(top, name)
                 self.bars(top, lamps, {1: "lit"})
                 for x in sorted({round(x / 2) * 2: x for x in presses}.values()):  # of presses in one place one is seen
-                    self.drawing.triangle(x, top + LANE - 3 - BAR / 2)
+                    self.drawing.triangle(x, top + LANE - PRESS)
                 top += LANE
             lit, pressed = lit or any(lamps), pressed or bool(presses)
         self.legend += [("lit", "lamp lit")] * lit + [("press", "button pressed")] * pressed
@@ -234,15 +234,16 @@ class Picture:
         rows = [
             ("crossing icon", [answer.icon for answer in self.ride.answers], {1: "protected", 2: "unprotected"}),
             ("limit control", [answer.standing for answer in self.ride.answers], {1: "standing"}),
-            ("BTS", [sample.mode for sample in self.samples], {2: "lit"}),
+            ("BTS", [sample.mode for sample in self.samples], {2: "bts"}),
         ]
-        words = {"protected": "crossing protected", "unprotected": "crossing unprotected", "standing": "limit control stands"}
+        words = {"protected": "crossing protected", "unprotected": "crossing unprotected", "standing": "limit control stands",
+                 "bts": "mode BTS"}
         for name, values, kinds in rows:
             seen = [kind for value, kind in kinds.items() if value in values]
             if seen:
                 self.lane(top, name)
                 self.bars(top, values, kinds)
-                self.legend += [(kind, words[kind]) for kind in seen if kind in words]
+                self.legend += [(kind, words[kind]) for kind in seen]
                 top += LANE
         return top
 
@@ -271,7 +272,7 @@ class Picture:
         if kind in ("speed", "limit", "beacon"):
             draw.line(x, y - 4, x + 26, y - 4, kind)
         elif kind == "press":
-            draw.triangle(x + 13, y - 4)
+            draw.triangle(x + 13, y - 8)
         elif kind == "stands":
             draw.diamond(x + 13, y - 4)
         elif kind:
@@ -301,40 +302,12 @@ def drawn(ride, title, over_distance):
     return drawing.svg(title, words, 100)
 
 
-def given_title():
-    """The title of the lesson on standard input, as far as its file's name says."""
-    try:
-        return lessons.title_of_recording(pathlib.Path("/proc/self/fd/0").readlink())
-    except OSError:
-        return None
-
-
-def options(arguments):
-    """The card's file, the title if one is given, and whether to draw over distance."""
-    title, over_distance, files = None, False, []
-    rest = iter(arguments)
-    for word in rest:
-        if word == "--distance":
-            over_distance = True
-        elif word == "--title":
-            title = next(rest, None)
-            if title is None:
-                raise plain.Usage
-        else:
-            files.append(word)
-    if len(files) != 1:
-        raise plain.Usage
-    return files[0], title, over_distance
-
-
 def main(arguments):
-    card, title, over_distance = options(arguments)
-    title = title or given_title() or "A ride"
+    card, title, flags = titles.options(arguments, ["--distance"])
     ride = desk.given_ride(card, USAGE)
-    plain.say(drawn(ride, title, over_distance))
+    plain.say(drawn(ride, title or "A ride", bool(flags)))
     if ride.refusal is not None:
-        desk.say_refusal(ride.refusal, len(ride.answers))
-        desk.say_if_text(ride.refusal, *ride.given)
+        desk.say_refusal(ride.refusal, len(ride.answers), *ride.given)
     return 0 if ride.refusal is None else 1
 
 

@@ -7,6 +7,7 @@ could not be written. A reader that closes a pipe has what it wanted: that is no
 import errno
 import os
 import re
+import stat
 import sys
 
 STATUS = "Status: 0 answered, 1 refused, 2 usage, a file that cannot be read, or output that could not be written."
@@ -45,9 +46,20 @@ def reason(error):
     return error.strerror[:1].lower() + error.strerror[1:]
 
 
+def encoded(text):
+    """The bytes of a text. A drawing is UTF-8 whatever the locale is, and so is all the rest; a name's strange bytes stay as they are."""
+    return text if isinstance(text, bytes) else text.encode("utf-8", "surrogateescape")
+
+
+def printable(text):
+    """A text that somebody gave, for a terminal: what it would not print, as an escape or a NUL, stands there in digits."""
+    known = encoded(text).decode("utf-8", "backslashreplace")
+    return "".join(c if c.isprintable() else c.encode("unicode_escape").decode("ascii") for c in known)
+
+
 def say(text):
     """Writes to standard output, at once."""
-    data = text if isinstance(text, bytes) else os.fsencode(text)
+    data = encoded(text)
     while data:
         try:
             data = data[os.write(1, data):]
@@ -60,7 +72,7 @@ def say(text):
 def complain(line):
     """Writes a line to standard error; where that is lost too, nothing is left to do."""
     try:
-        os.write(2, (line if isinstance(line, bytes) else os.fsencode(line)) + b"\n")
+        os.write(2, encoded(line) + b"\n")
     except OSError:
         pass
 
@@ -109,6 +121,23 @@ def read_again(name):
         return file_bytes(name, MOST) if os.path.isfile(name) else b""
     except Ends:
         return b""
+
+
+def place(fd):
+    """Where a file is read next; None in a pipe, which has its bytes once."""
+    try:
+        return os.lseek(fd, 0, os.SEEK_CUR)
+    except OSError:
+        return None
+
+
+def read_from(fd, start):
+    """The bytes that a program has read from a place on, None where nobody can read them again."""
+    try:
+        data = None if start is None else os.pread(fd, MOST, start)
+    except OSError:
+        return None
+    return data if not data or stat.S_ISREG(os.fstat(fd).st_mode) else None
 
 
 def say_if_text(what, data):

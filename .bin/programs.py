@@ -5,6 +5,7 @@ import os
 import pathlib
 import selectors
 import subprocess
+import tempfile
 
 import plain
 
@@ -24,7 +25,8 @@ def command(name):
 class Heard:
     """What a program wrote, as far as the status goes: how many lines, the first refusal, or that it could do nothing."""
 
-    def __init__(self):
+    def __init__(self, name):
+        self.name = name
         self.lines = 0
         self.refusal = None
         self.failed = False
@@ -40,7 +42,7 @@ class Heard:
         self.failed = True
         if line.startswith(b"cannot read "):
             line += why_unreadable(line[len(b"cannot read "):])
-        plain.complain(line)
+        plain.complain(plain.encoded(f"{self.name}: ") + line)
 
     def status(self):
         if self.failed:
@@ -60,10 +62,21 @@ def why_unreadable(name):
     return b""
 
 
+def lent(data):
+    """A file with these bytes, for a program that reads one; it is gone behind its block."""
+    try:
+        file = tempfile.NamedTemporaryFile()
+        file.write(data)
+        file.flush()
+    except OSError as error:
+        raise plain.Ends(f"cannot write a temporary file: {plain.reason(error)}") from None
+    return file
+
+
 def pass_on(name, arguments, stdin=None, put=bytes):
     """Runs a program and passes each of its lines on as soon as it is whole, as `put` has it. Answers what was heard. Where the output
     is lost the program has nothing left to do."""
-    heard = Heard()
+    heard = Heard(name)
     with subprocess.Popen(command(name) + arguments, stdin=stdin, stdout=subprocess.PIPE, stderr=subprocess.PIPE,
                           close_fds=False) as program:  # an argument may be /dev/fd/63
         try:
@@ -117,7 +130,7 @@ def answer(name, arguments, given):
     """The lines of a program that reads these bytes."""
     ran = subprocess.run(command(name) + arguments, input=given, stdout=subprocess.PIPE, stderr=subprocess.PIPE, close_fds=False,
                          check=False)
-    heard = Heard()
+    heard = Heard(name)
     for line in lines_of(ran.stderr):
         heard.complaint(line)
     if heard.failed:

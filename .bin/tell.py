@@ -1,16 +1,17 @@
-"""tell.py CARD < RECORDING: tells a ride as a page, a line for each sample at which something changes."""
+"""tell.py [--title TITLE] CARD < RECORDING: tells a ride as a page, a line for each sample at which something changes."""
 
 import sys
 import textwrap
 
 import desk
 import plain
+import titles
 
-USAGE = """usage: ./tell CARD < RECORDING
+USAGE = """usage: ./tell [--title TITLE] CARD < RECORDING
 
 Tells a ride as a page: a line for each sample at which something changes, with its number and time, the metres travelled with it,
-the train's speed and its limit in km/h, and in words what is pressed and read, lamps, brake, crossing icon and limit. A refusal
-ends the page."""
+the train's speed and its limit in km/h, and in words what is pressed and read, lamps, brake, crossing icon and limit. The title is
+the lesson's where the recording's file has a lesson's name. A refusal ends the page."""
 
 HEADING = f"{'n':>5} {'time':>7} {'metres':>8} {'speed':>7} {'limit':>7}   what happens"
 WIDTH = 120
@@ -43,12 +44,12 @@ def stays(answers, i):
 
 
 def limit_words(answers, i):
-    """How the limit changes at sample i: a jump, the first sample of a curve, or its last where the limit then stays."""
-    if curve(answers, i):
-        if not curve(answers, i - 1):
-            yield "the limit begins to fall"
-        elif stays(answers, i):
+    """How the limit changes at sample i: the first sample of a curve, its last where the limit then stays, or a change at once."""
+    if curve(answers, i) and curve(answers, i - 1):
+        if stays(answers, i):
             yield f"the limit has fallen to {kmh(answers[i].limit)}"
+    elif curve(answers, i) and curve(answers, i + 1):
+        yield "the limit begins to fall"
     elif i and answers[i].limit != answers[i - 1].limit:
         yield f"the limit is {kmh(answers[i].limit)}"
 
@@ -117,13 +118,18 @@ def about(ride):
 def refused(ride):
     """The refusal, with the sample that is at fault."""
     line = f"refused {ride.refusal}: {ride.why()}"
+    if ride.refusal in desk.OF_CARD:
+        line += f" ({desk.CARD_HINT})"
     if ride.refusal in desk.OF_SAMPLE:
         bad = ride.samples[len(ride.answers)]
         line += f" (pulses {bad.pulses}, beacon {bad.beacon}, buttons {bad.buttons:#x}, mode {bad.mode})"
     return line
 
 
-def page(ride):
+def page(ride, title=None):
+    """The lines of the page, under its title if it has one."""
+    if title:
+        yield plain.printable(title)
     if ride.answers or ride.refusal is None:
         yield from about(ride)
         yield ""
@@ -134,10 +140,9 @@ def page(ride):
 
 
 def main(arguments):
-    if len(arguments) != 1:
-        raise plain.Usage
-    ride = desk.given_ride(arguments[0], USAGE)
-    for line in page(ride):
+    card, title, _ = titles.options(arguments)
+    ride = desk.given_ride(card, USAGE)
+    for line in page(ride, title):
         plain.say(line + "\n")
     desk.say_if_text(ride.refusal, *ride.given)
     return 0 if ride.refusal is None else 1

@@ -15,14 +15,18 @@ USAGE = """usage: ./show_tones SHEET [TONE ..] [< TONES]
 
 Says what each tone reads as under the sheet in the file SHEET: a beacon or the permanent tone, with the offset from the row's
 centre, or nothing. A TONE is a decimal number of kHz, as 60.76, or the eight hexadecimal digits of an f32 in kHz, as 42730a3d.
-Without one, tones come on standard input, a line each, in the same forms. A decimal is rounded to the nearest f32, once."""
+Without one, tones come on standard input, a line each, in the same forms. With tones, SHEET may be -, the sheet on standard input.
+A decimal is rounded to the nearest f32, once."""
+
+STANDARD_INPUT = ("-", "/dev/stdin", "/dev/fd/0", "/proc/self/fd/0")
 
 # The program's words where a line is no tone, and what stands behind them: a tone in kHz is taken here alone.
 BITS_FORM = "a tone is the eight hexadecimal digits of its f32 in kHz, as 42730a3d"
-KHZ_FORM = ", or a number of kHz with a decimal point, as 60.76"
+KHZ_FORM = ", or a number of kHz, as 60.76"
+NOT_A_TONE = "not a tone: "
 
 BITS = re.compile(r"[0-9A-Fa-f]{8}")
-DECIMAL = re.compile(r"[+-]?([0-9]+\.?[0-9]*|\.[0-9]+)")
+DECIMAL = re.compile(r"([+-]?(?:[0-9]+\.?[0-9]*|\.[0-9]+))(?:[ \t]*kHz)?", re.IGNORECASE)
 ANSWER = re.compile(r"([0-9a-f]{8}) (?:nothing|(?:permanent|beacon [0-9]+) offset ([0-9a-f]{8}))")
 
 
@@ -47,7 +51,8 @@ def bits_of(text):
     digits = text.replace(" ", "").replace("\t", "")
     if BITS.fullmatch(digits):
         return int(digits, 16)
-    return nearest(text.strip()) if DECIMAL.fullmatch(text.strip()) else None
+    decimal = DECIMAL.fullmatch(text.strip())
+    return nearest(decimal[1]) if decimal else None
 
 
 def khz(bits):
@@ -59,7 +64,7 @@ def beside(line):
     """A line of the program, and what stands beside it."""
     answer = ANSWER.fullmatch(line)
     if not answer:
-        return line + KHZ_FORM if line.startswith("not a tone: ") else line
+        return plain.printable(line) + KHZ_FORM if line.startswith(NOT_A_TONE) else line
     tone, offset = (khz(int(bits, 16)) if bits else None for bits in answer.groups())
     return f"{line}   = {tone}" + (f", offset {offset}" if offset else "")
 
@@ -70,16 +75,20 @@ def asked(bits):
 
 
 def say_tones(sheet, tones):
-    """A line for each tone of the arguments, or the refusal of the sheet. Gives the status."""
+    """A line for each tone of the arguments, or the refusal of the sheet. Gives the status. The tones take the standard input of the
+    program, so the sheet is read before."""
+    most = plain.MOST + 1
+    area = plain.standard_input("sheet", USAGE, most) if sheet in STANDARD_INPUT else plain.file_bytes(sheet, most)
     every = [bits_of(tone) for tone in tones]
-    lines = programs.answer("show_tones", [sheet], b"".join(asked(bits) for bits in every if bits is not None))
+    with programs.lent(area) as file:
+        lines = programs.answer("show_tones", [file.name], b"".join(asked(bits) for bits in every if bits is not None))
     if lines and lines[0].startswith("refused "):
         plain.say(lines[0] + "\n")
-        plain.say_if_text("sheet", plain.read_again(sheet))
+        plain.say_if_text("sheet", area)
         return 1
     answers = iter(lines)
     for tone, bits in zip(tones, every):
-        plain.say((f"not a tone: {tone}; {BITS_FORM}{KHZ_FORM}" if bits is None else beside(next(answers))) + "\n")
+        plain.say((f"{NOT_A_TONE}{plain.printable(tone)}; {BITS_FORM}{KHZ_FORM}" if bits is None else beside(next(answers))) + "\n")
     return 1 if None in every else 0
 
 
@@ -100,9 +109,11 @@ def hand_on(target):
 def pass_tones(sheet):
     """An answer for each line of standard input as it comes, or the refusal of the sheet. Gives the status."""
     plain.check_input("tones")
+    if sheet in STANDARD_INPUT:
+        raise plain.Ends("a sheet on standard input needs its tones behind it: ./show_tones - TONE ..")
     source, target = os.pipe()
     threading.Thread(target=hand_on, args=[target], daemon=True).start()
-    heard = programs.pass_on("show_tones", [sheet], source, lambda line: beside(line.decode("latin-1")).encode("latin-1"))
+    heard = programs.pass_on("show_tones", [sheet], source, lambda line: plain.encoded(beside(line.decode("utf-8", "surrogateescape"))))
     if heard.refusal and heard.refusal.startswith("refused "):
         plain.say_if_text("sheet", plain.read_again(sheet))
     return heard.status()
