@@ -151,10 +151,10 @@ def numbered(lines):
 def plain_hex(lines):
     made = bytearray()
     lines = [(number, line.split("#", 1)[0].split()) for number, line in lines]
-    for index, (number, words) in enumerate(lines):
+    everywhere = all_listed([words for _, words in lines])
+    for (number, words), (_, after) in zip(lines, [*lines[1:], (None, [])]):
         data = pairs(number, words)
-        after = lines[index + 1][1] if index + 1 < len(lines) else []
-        if may_be_offset(words, len(made), after, all(is_listed(words) for _, words in lines)):
+        if may_be_offset(words, len(made), after, everywhere):
             several = {2: "two", 3: "three", 4: "four"}[len(words[0]) // 2]
             wrong(number, f"{words[0]} may be an offset or {several} bytes; give the whole listing, or the hex without offsets "
                           f"({several} bytes as {bytes.fromhex(words[0]).hex(' ')})")
@@ -163,19 +163,31 @@ def plain_hex(lines):
 
 
 def is_listed(words):
-    """Is this line made as those of a listing are, a longer word and bytes behind it?"""
-    return len(words) > 1 and 4 <= len(words[0]) <= 8 and all(len(word) == 2 for word in words[1:])
+    """Is this line made as those of a listing are, a longer word and bytes behind it, or six digits and words as od has them?"""
+    lengths = {len(word) for word in words[1:]}
+    return 4 <= len(words[0]) <= 8 and lengths == {2} or len(words[0]) == 6 and lengths in ({4}, {8})
 
 
-def may_be_offset(words, due, after, all_listed):
+def all_listed(lines):
+    """Are all lines made so? The last may have an offset only."""
+    return all(map(is_listed, lines[:-1])) and (is_listed(lines[-1]) or len(lines) > 1 and len(lines[-1]) == 1)
+
+
+def may_be_offset(words, due, after, everywhere):
     """May the first word be an offset? It is the one due here, the next line goes on from it, or all lines look so."""
     if not words or not 4 <= len(words[0]) <= 8:
         return False
     value, is_long = int(words[0], 16), len(words[0]) >= 6
-    if not is_listed(words):
-        return is_long and value == due
-    goes_on = bool(after) and HEX.fullmatch(after[0]) and len(after[0]) == len(words[0]) and int(after[0], 16) == value + len(words) - 1
-    return value == due or bool(goes_on) or is_long and all_listed
+    if not is_long and not is_listed(words):
+        return False
+    return value == due or goes_on(words, after) or is_long and everywhere
+
+
+def goes_on(words, after):
+    """Is the next line's first word this line's and as many as there are words behind it, of one, two or four bytes?"""
+    if len(words) == 1 or not after or len(after[0]) != len(words[0]) or not HEX.fullmatch(after[0]):
+        return False
+    return int(after[0], 16) - int(words[0], 16) in [(len(words) - 1) * size for size in (1, 2, 4)]
 
 
 # ---- a dump
