@@ -170,7 +170,9 @@ def is_listed(words):
 
 def all_listed(lines):
     """Are all lines made so? The last may have an offset only."""
-    return all(map(is_listed, lines[:-1])) and (is_listed(lines[-1]) or len(lines) > 1 and len(lines[-1]) == 1)
+    first, last = lines[0], lines[-1]
+    is_bare = len(lines) > 1 and len(last) == 1 and len(last[0]) == len(first[0])
+    return all(map(is_listed, lines[:-1])) and (is_bare or is_listed(last))
 
 
 def may_be_offset(words, due, after, everywhere):
@@ -201,7 +203,8 @@ def read_listing(lines):
     first = BYTES.fullmatch(line.rstrip())
     if not first:
         if WORDS.fullmatch(line.rstrip()):
-            wrong(number, "a listing of hexdump without -C, or of od, whose words stand in the machine's own order; make it with hexdump -C")
+            wrong(number, "a listing of hexdump without -C, or of od, whose words stand in the machine's own order; "
+                          "make it with hexdump -C")
         return None
     digits = len(first[1])
     name = "a hexdump -C listing" if (first[3] or "").startswith("|") else "a listing with offsets"
