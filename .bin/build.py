@@ -1,7 +1,9 @@
 """build.py NAME: proves and builds the program NAME. Says beforehand how long that takes, and a line for each crate as it goes."""
 
+import os
 import pathlib
 import re
+import signal
 import subprocess
 import sys
 
@@ -54,10 +56,26 @@ def minutes(crates):
     return f"{low} to {high} minutes" if low < high else f"{low} minutes"
 
 
+def stop_plainly(name):
+    """Ctrl-C ends the proving, which hears of it too, with a line."""
+    def stopped(*_):
+        os.write(1, f"{name}: stopped; what is proved stays, the next run goes on\n".encode())
+        os._exit(130)
+
+    if signal.getsignal(signal.SIGINT) != signal.SIG_IGN:
+        signal.signal(signal.SIGINT, stopped)
+
+
+def beforehand(name, every, old):
+    if not old:
+        return f"{name}: built first, nothing to prove again; later runs start at once"
+    return f"{name}: proved and built first, {old} of {every} crates, which takes {minutes(old)} on two cores; later runs start at once"
+
+
 def main(name):
+    stop_plainly(name)
     every, old = to_prove(name)
-    print(f"{name}: proved and built first, {old} of {every} crates, which takes {minutes(old)} on two cores; later runs start at once",
-          flush=True)
+    print(beforehand(name, every, old), flush=True)
     said, done = [], 0
     with subprocess.Popen(["rt", "check", name], cwd=ROOT, text=True, stdin=subprocess.DEVNULL, stdout=subprocess.PIPE,
                           stderr=subprocess.STDOUT) as check:

@@ -1,9 +1,10 @@
 """How every program here ends: with a status and, where that is 2, with one plain line on standard error.
 
-0: answered. 1: refused, be it a card, a sheet, a ride, a sample or a tone. 2: usage, a file that cannot be read, or output that
-could not be written. A reader that closes a pipe has what it wanted: that is no fault.
+0: answered. 1: refused, be it a card, a sheet, a ride, a sample, a tone or a dump. 2: usage, a file that cannot be read, or output
+that could not be written. A reader that closes a pipe has what it wanted: that is no fault.
 """
 
+import codecs
 import errno
 import os
 import re
@@ -12,9 +13,11 @@ import sys
 
 STATUS = "Status: 0 answered, 1 refused, 2 usage, a file that cannot be read, or output that could not be written."
 
-# As many bytes of a file as a proved program looks at, and the bytes of a text.
+# As many bytes of a file as a proved program looks at, and the characters of a text here. Those beyond, as Chinese has them, are what
+# any bytes are as UTF-16.
 MOST = 65536
-TEXT = re.compile(rb"[\t-\r -~]+")
+TEXT = re.compile("[\t-\r -~\xa0-\u2fff]+")
+MARKS = {codecs.BOM_UTF8: "utf-8", codecs.BOM_UTF16_LE: "utf-16-le", codecs.BOM_UTF16_BE: "utf-16-be"}
 
 
 class Ends(Exception):
@@ -140,9 +143,23 @@ def read_from(fd, start):
     return data if not data or stat.S_ISREG(os.fstat(fd).st_mode) else None
 
 
+def decoded(data, whole=True):
+    """The text of these bytes: UTF-8, or UTF-16 by its mark. Where they are not the whole file, the last character may be cut."""
+    mark, coding = next(((mark, coding) for mark, coding in MARKS.items() if data.startswith(mark)), (b"", "utf-8"))
+    return codecs.getincrementaldecoder(coding)().decode(data[len(mark):], whole)
+
+
+def is_text(data):
+    """Are the first bytes of a file, at most MOST of them, those of a text?"""
+    try:
+        return bool(TEXT.fullmatch(decoded(data, len(data) < MOST)))
+    except UnicodeDecodeError:
+        return False
+
+
 def say_if_text(what, data):
     """Says on standard error that bytes which were refused are a text, as a hex dump is one."""
-    if TEXT.fullmatch(data):
+    if is_text(data):
         complain(f"this {what} is text, not bytes; bench/unhex makes bytes of a hex dump")
 
 
@@ -154,7 +171,7 @@ def run(name, usage, work, arguments, statuses=STATUS):
     """Does the work with the arguments, and ends with the status that it gives."""
     hold_descriptors()
     try:
-        if arguments[:1] == ["--help"]:
+        if arguments[:1] in (["--help"], ["-h"]):
             say(f"{usage}\n\n{statuses}\n")
             status = 0
         else:

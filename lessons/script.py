@@ -4,7 +4,6 @@ lessons/README.md describes the notation. Of the desk's rules this knows one thi
 refuses, and at which line of the script, so that a slip is told before the ride is made.
 """
 
-import codecs
 import dataclasses
 import fractions
 import pathlib
@@ -92,7 +91,7 @@ def text(path):
     except OSError as error:
         raise plain.Ends(f"cannot read {shown(path)}: {plain.reason(error)}") from None
     try:
-        return data.decode("utf-16" if data.startswith((codecs.BOM_UTF16_LE, codecs.BOM_UTF16_BE)) else "utf-8-sig")
+        return plain.decoded(data)
     except UnicodeDecodeError:
         raise plain.Refused(f"{shown(path)}: it is no text in UTF-8") from None
 
