@@ -91,7 +91,7 @@ moreText bytes first = pick (leb bytes first) [] (ascii "and " ++ manyText bytes
 unfoldable pub behindText : List ℕ → ℕ → List ℕ
 behindText area whole =
     pick (leb (counted area) whole) []
-    (manyText (counted area) whole ++ ascii " bytes behind the record are not read: the desk never looks at them\n"
+    (ascii "bytes behind the record, which the desk never reads: " ++ manyText (counted area) whole ++ ascii "\n"
     ++ hexLines area whole ++ moreText (counted area) (whole + 64))
 
 -- ---- the whole text

@@ -208,12 +208,13 @@ fn put_behind(out: &mut [u8], at: usize, area: &[u8], whole: u16) -> usize
     if bytes <= record {
         return at;
     }
-    let at = put_many(out, at, bytes, record);
     let at = put_text(
         out,
         at,
-        b" bytes behind the record are not read: the desk never looks at them\n",
+        b"bytes behind the record, which the desk never reads: ",
     );
+    let at = put_many(out, at, bytes, record);
+    let at = put_text(out, at, b"\n");
     let at = put_lines(out, at, area, whole);
     put_more(out, at, bytes, record + 64)
 }
