@@ -1,80 +1,28 @@
--- What is said of a refused card is so: the setting that is named is out of the range beside it, and a final misses the end that is
--- named; the bytes are fewer than those that are due, the version is above the highest, the length field is another than the one due;
--- and a file of text is refused by its version.
-use Prim.Native.Nat.{ℕ, _-_, _/_, _%_, _≤_, _<_}
+-- What is said of a refused card is so, besides the range of a setting (proofs/Ranges.antt): a final misses the end that is named; the
+-- bytes are fewer than those that are due, the version is above the highest, the length field is another than the one due; and a file of
+-- text is refused by its version.
+use Prim.Native.Nat.{ℕ, _-_, _%_, _≤_, _<_}
 use native.Mathlib.Omega.{arith}
 use mathlib.Core.Path.{_≡_, refl}
 use mathlib.Core.Bool.{Bool, true, false, _||_}
 use mathlib.Core.List.{List, [], _∷_}
-use mathlib.Core.Logic.{_⊎_, inl, inr, ⊎-elim}
-use lib.Dec.{leb, ltb, eqb, lit≤}
+use mathlib.Core.Logic.{_⊎_, inl, inr}
+use lib.Dec.{leb, ltb, eqb}
 use lib.ListN.{length}
-use borrow.Author.Tests.{eqb-true, eqb-false, ne-eqb, lt-ltb, le-ltb, leb-true, ltb-true, ltb-false}
+use borrow.Author.Tests.{eqb-true, ne-eqb, lt-ltb, le-ltb, leb-true, ltb-true, ltb-false}
 use Rattle.leaf.specs.Choosing.{and-split}
 use Rattle.leaf.specs.Numbers.{within}
 use Rattle.leaf.specs.Bytes.{byte, word}
 use Rattle.leaf.specs.Answers.{refused, refusedAt}
-use Rattle.card.specs.Card.{baseKind, lengthOf, rowAt, reminds}
-use Rattle.card.specs.Reading.{kept, functionsFrom, settingsFrom, settingsOf, readCard}
-use Rattle.card.specs.Plain.{Within, Setting, Vmax, Tick, Bts, Initial, Last, Drop, Functions, X, Y, OfCard, place, SettingMet, Known, ReadAs, under-3, version-above, other-length, short, out-of-range}
+use Rattle.card.specs.Card.{lengthOf}
+use Rattle.card.specs.Reading.{readCard}
+use Rattle.card.specs.Plain.{Within, Known, ReadAs, under-3, version-above, other-length, short}
 use Rattle.text.specs.Words.{ascii}
-use Rattle.card.proofs.Listed.{from-at}
-use Rattle.card.proofs.Area.{version-cases, length-is, length-only, card-version}
+use Rattle.card.proofs.Area.{length-is, length-only}
 use Rattle.card.proofs.Exactly.{read-exactly}
-use Rattle.refused_card.specs.Refused.{bytesDue, isCharacter, isText, lowEnd, rowHighEnd, tailHighEnd, highEnd, valueAt, isFinal, isAbove, isBelow, missedText}
-
--- ---- a setting out of range
-
--- of a row: what is printed is document 01's range, and of a drop, "drop ≥ 1", besides that it is at most 255
-alike : {A B C D : Type 0} → ((A → ⊥) → A → ⊥) × ((B → ⊥) → B → ⊥) × ((C → ⊥) → C × D → ⊥)
-alike = (λ out w. out w, λ out w. out w, λ out w. out (w .0))
-
-module _ (area : List ℕ) where
-  -- what stands at a place is out of the range that is printed beside it
-  abbrev Outside : ℕ → Type 0
-  Outside at = Within (lowEnd at) (highEnd area at) (valueAt area at) → ⊥
-
-  -- so is a setting that is not as document 01 has it
-  abbrev Told : Setting → Type 0
-  Told setting = (SettingMet baseKind (byte area 2) (settingsOf area) setting → ⊥) → Outside (place baseKind setting)
-
-  -- a row's initial, final and drop, row for row
-  row-told : (row : ℕ) → row < 8 → Told (Initial row) × Told (Last row) × Told (Drop row)
-  unfolding lowEnd highEnd rowHighEnd valueAt settingsFrom rowAt
-  row-told row of =
-      from-at (λ k. Told (Initial k) × Told (Last k) × Told (Drop k)) 0 8
-      (alike, (alike, (alike, (alike, (alike, (alike, (alike, (alike, tt)))))))) row (omega arith) of
-
-  functions-told : Known (byte area 2) → Told Functions
-  unfolding lowEnd highEnd tailHighEnd valueAt settingsFrom functionsFrom
-  functions-told known out w =
-      ⊎-elim (λ one. out (rw one ((λ e. refl), lit≤ tt))) (λ two. out (rw two ((λ e. absurd (omega arith)), w .1))) (version-cases known)
-
-  -- X, or Y, is looked at where bit 2 is on, and else 0
-  kept-told : (on : Bool) (f lo hi x : ℕ) → reminds f ≡ on
-      → ((f / 4 % 2 ≡ 1 → Within lo hi (kept on x)) × (f / 4 % 2 ≡ 0 → kept on x ≡ 0) → ⊥) → Within lo hi x → ⊥
-  kept-told true f lo hi x e out w = out ((λ one. w), (λ nought. absurd (omega (arith, eqb-true (f / 4 % 2) 1 e))))
-  kept-told false f lo hi x e out w = out ((λ one. absurd (eqb-false (f / 4 % 2) 1 e one)), (λ nought. refl))
-
-  x-told : Told X
-  unfolding lowEnd highEnd tailHighEnd valueAt settingsFrom
-  x-told = kept-told _ (functionsFrom baseKind (byte area 2) area) 2 6000 (word area 40) refl
-
-  y-told : Told Y
-  unfolding lowEnd highEnd tailHighEnd valueAt settingsFrom
-  y-told = kept-told _ (functionsFrom baseKind (byte area 2) area) 1 5000 (word area 42) refl
-
-  all-told : Known (byte area 2) → (setting : Setting) → OfCard setting → Told setting
-  unfolding lowEnd highEnd valueAt settingsFrom
-  all-told known Vmax of out w = out w
-  all-told known Tick of out w = out w
-  all-told known Bts of out w = out w
-  all-told known (Initial row) of out w = row-told row of .0 out w
-  all-told known (Last row) of out w = row-told row of .1 out w
-  all-told known (Drop row) of out w = row-told row of .2 out w
-  all-told known Functions of out w = functions-told known out w
-  all-told known X of out w = x-told out w
-  all-told known Y of out w = y-told out w
+use Rattle.refused_card.specs.Refused.{bytesDue, isCharacter, isText, lowEnd, rowHighEnd, highEnd, valueAt, isFinal, isAbove, isBelow, missedText}
+use Rattle.refused_card.specs.Told.{Printed}
+use Rattle.refused_card.proofs.Ranges.{outside}
 
 -- ---- a final
 
@@ -87,7 +35,7 @@ Below area at = (byte area at < 1) × (missedText area at ≡ ascii ": below 1")
 
 module _ (area : List ℕ) (at : ℕ) (final : isFinal at ≡ true) where
   -- a final's range is 1 to the byte before it
-  final-outside : Outside area at → Within 1 (byte area (at - 1)) (byte area at) → ⊥
+  final-outside : (Printed area at (valueAt area at) → ⊥) → Within 1 (byte area (at - 1)) (byte area at) → ⊥
   unfolding lowEnd highEnd rowHighEnd valueAt
   final-outside out =
       let split = and-split (within 7 38 at) (eqb ((at - 7) % 4) 1) final in
@@ -112,17 +60,9 @@ module _ (area : List ℕ) (at : ℕ) (final : isFinal at ≡ true) where
           below false l = absurd (out (ltb-false _ _ l, ltb-false _ _ e))
 
 module _ (area : List ℕ) (highest : ℕ) where
-  -- "5 | setting out of range, with place of the first": what stands there is out of the range beside it
-  out-told : (n at : ℕ) → ReadAs area highest (refusedAt n at) → Outside area at
-  out-told n at (out-of-range header place first) =
-      rw (← first .stands) (all-told area (card-version area highest header) (first .setting) (first .ofCard) (first .out))
-
-  pub range-told : (n at : ℕ) → readCard area highest ≡ refusedAt n at → Outside area at
-  range-told n at e = out-told n at (read-exactly area highest (refusedAt n at) .0 e)
-
   -- "final 1..initial": of a final that is refused the end is named that it misses
   pub final-told : (n at : ℕ) → readCard area highest ≡ refusedAt n at → isFinal at ≡ true → Above area at ⊎ Below area at
-  final-told n at e final = missed area at final (final-outside area at final (range-told n at e))
+  final-told n at e final = missed area at final (final-outside area at final (outside area highest n at e))
 
   -- ---- a header
 
