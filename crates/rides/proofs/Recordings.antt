@@ -56,7 +56,7 @@ abbrev pub upTo : List ℕ → ℕ → List ℕ
 upTo recording zero = take 6 recording
 upTo recording (suc k) = upTo recording k ++ six recording k
 
-next-six : (l : List ℕ) (p : ℕ) → p + 6 ≤ length l
+pub next-six : (l : List ℕ) (p : ℕ) → p + 6 ≤ length l
     → take 6 (drop p l) ≡ byte l p ∷ byte l (p + 1) ∷ byte l (p + 2) ∷ byte l (p + 3) ∷ byte l (p + 4) ∷ byte l (p + 5) ∷ []
 unfolding byte
 next-six l p h =

@@ -21,7 +21,7 @@ ghost use Rattle.session.specs.Types.{typeSpeed, typeAllowed};
 ghost use Rattle.session.specs.Session.{freshSession, openedOf, openSession, insideOf, standstill, refusedBy, carried, stepped, sampledAs, sampleOf, outcomeOf, answerTo};
 
 // Opening takes no version: settings are judged as beside this one.
-const OPENING_VERSION: u8 = 2;
+pub const OPENING_VERSION: u8 = 2;
 
 // What comes every 100 ms: odometer pulses, the beacon's code, the buttons newly pressed, the mode.
 pub struct Sample {

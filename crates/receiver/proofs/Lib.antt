@@ -1,0 +1,5 @@
+pub mod Receivers
+pub mod SixBytes
+pub mod Head
+pub mod Steps
+pub mod Determined
