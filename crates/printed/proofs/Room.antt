@@ -37,7 +37,7 @@ refused-length : (n : ℕ) → length (refusedLine n) ≤ 66
 unfolding refusedLine
 refused-length n = simp length-append (omega (arith, decimal-length n))
 
-shown-length : (columns : Columns) (number : ℕ) (s : Shown) → length (shownText columns number s) ≤ 66
+pub shown-length : (columns : Columns) (number : ℕ) (s : Shown) → length (shownText columns number s) ≤ 66
 unfolding shownText
 shown-length columns number (shown.Answered a) = answer-length columns number a
 shown-length columns number (shown.Refused n) = refused-length n

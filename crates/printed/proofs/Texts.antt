@@ -1,20 +1,16 @@
 -- What the printed ride's definitions give where a card or a recording is refused, and that a good recording has no more samples than
 -- are run.
-use Prim.Native.Nat.{ℕ, min, _≤_}
-use native.Mathlib.Omega.{arith}
+use Prim.Native.Nat.{ℕ, min}
 use native.Mathlib.Nat.{min-eq-left}
 use mathlib.Core.Path.{_≡_, refl}
 use mathlib.Core.Bool.{Bool, true, false}
 use mathlib.Core.List.{List}
-use lib.ListN.{length, length-append, length-take, length-drop}
 use Rattle.leaf.specs.Choosing.{pick}
-use Rattle.leaf.specs.Bytes.{over}
 use Rattle.leaf.specs.Answers.{Answer, given, refused, refusedAt, refusalOf}
 use Rattle.leaf.specs.declared.Refusal.{Refusal}
 use Rattle.leaf.specs.declared.Refusal.the-variants.{Number, At}
 use Rattle.card.specs.declared.Settings.{Settings}
 use Rattle.session.specs.Session.{openSession}
-use Rattle.text.specs.Typing.{Sheet, typed, typed-over}
 use Rattle.rides.specs.Recording.{samplesIn, mostSamples, goodRecording, trainOf}
 use Rattle.rides.specs.Ride.{startRide, numberOf}
 use Rattle.rides.proofs.Recordings.{good-met}
@@ -43,8 +39,3 @@ capped columns recording (given settings) = cases (goodRecording recording) refl
     cases false e = refl
 capped columns recording (refused m) = refl
 capped columns recording (refusedAt m place) = refl
-
--- a buffer holds no more of a text than it has bytes
-pub typed-held : (t l : List ℕ) (s : Sheet) → s ≡ typed t (l, 0) → s .1 ≤ length (s .0)
-unfolding over
-typed-held t l s e = rw (e, typed-over) (simp (length-append, length-take, length-drop) (omega arith))

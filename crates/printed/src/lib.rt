@@ -26,7 +26,7 @@ const BLANK: u8 = 0x20;
 const NEWLINE: u8 = 0x0A;
 
 // The highest version of a card that is read.
-const HIGHEST: u8 = 2;
+pub const HIGHEST: u8 = 2;
 
 // Which columns are printed: document 01's, the sample's number, S, lamps and cause; or with them the rest of the answer, icon and
 // limit standing.
@@ -35,7 +35,7 @@ pub enum Columns {
     Whole,
 }
 
-fn put_heading(columns: Columns, out: &mut [u8], at: usize) -> usize
+pub fn put_heading(columns: Columns, out: &mut [u8], at: usize) -> usize
     ensures { λ r. ⌜ (now (out .exit), r) ≡ typed (heading columns) (now (out .entry), at) ⌝ }
 {
     match columns {
@@ -44,7 +44,7 @@ fn put_heading(columns: Columns, out: &mut [u8], at: usize) -> usize
     }
 }
 
-fn put_refused(out: &mut [u8], at: usize, number: u8) -> usize
+pub fn put_refused(out: &mut [u8], at: usize, number: u8) -> usize
     ensures { λ r. ⌜ (now (out .exit), r) ≡ typed (refusedLine number) (now (out .entry), at) ⌝ }
 {
     let at = put_text(out, at, b"refused ");
@@ -73,7 +73,7 @@ fn put_answer(columns: Columns, out: &mut [u8], at: usize, number: u32, a: Answe
     }
 }
 
-fn put_shown(columns: Columns, out: &mut [u8], at: usize, number: u32, shown: Shown) -> usize
+pub fn put_shown(columns: Columns, out: &mut [u8], at: usize, number: u32, shown: Shown) -> usize
     ensures { λ r. ⌜ (now (out .exit), r) ≡ typed (shownText columns number shown) (now (out .entry), at) ⌝ }
 {
     match shown {

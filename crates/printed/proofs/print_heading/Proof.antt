@@ -1,14 +1,10 @@
-use mathlib.Core.Path.{_∙_, ap}
-use Rattle.text.specs.Typing.{Sheet, typed-over}
+use Rattle.text.specs.Typing.{held}
 use borrow.Author.Needs.{needs}
-use Rattle.printed.proofs.Texts.{typed-held}
 use Rattle.printed.proofs.print_heading.Statement.{statement}
 use Rattle.printed.proofs.print_heading.Tie as tie
 
 returns : tie.Need-returns
-returns c =
-    let e = c .before .before .put-heading .ensures ∙ typed-over _ _ in
-    (ap (λ (s : Sheet). s .1) e, (ap (λ (s : Sheet). s .0) e, typed-held _ _ _ (c .before .before .put-heading .ensures)))
+returns c = let h = held _ _ _ (c .before .before .put-heading .ensures) in (h .counted, (h .bytes, h .inside))
 
 pub print-heading-spec : {M : Type 1} → statement M
 print-heading-spec = tie.close (tie.spec (λ c κs. search needs) (λ c. search needs) returns)
