@@ -31,16 +31,16 @@ use Rattle.demands.proofs.Apart.{reminder-same, RemindsAlike, step-alik
 -- ---- the functions and the desks on which they have not been looked at
 
 -- a reminder whose settings are not looked at, off or due and not yet lit, stays so where its first lighting does not come
-calm-stays : (s : Session) (t : Settings) (x : Sample) → reminderDiffers (s .settings) t ≡ true → calm (s .desk .reminder .phase) ≡ true
+pub calm-stays : (s : Session) (t : Settings) (x : Sample) → reminderDiffers (s .settings) t ≡ true → calm (s .desk .reminder .phase) ≡ true
     → meetsReminder s x ≡ false → calm (ranOf s x .session .desk .reminder .phase) ≡ true
 unfolding meetsReminder ranOf
 calm-stays s t x o quiet dark = calm-after (s .settings) (typeSpeed (s .train) * 100) (carried s x) (s .desk) quiet dark
 
-abbrev reminderEntry : Entry
+abbrev pub reminderEntry : Entry
 reminderEntry = record { function = reminderFunction; quiet = λ d. calm (d .reminder .phase); fresh = refl; stays = calm-stays }
 
 -- those of `laterFunctions`, in its order
-abbrev entries : List Entry
+abbrev pub entries : List Entry
 entries = momentary crossingFunction ∷ momentary zoneFunction ∷ reminderEntry ∷ momentary btsFunction ∷ []
 
 -- ---- one sample
@@ -51,14 +51,14 @@ module _ (t : Settings) where
   beside u = withSettings (later (u .settings) t) u
 
   -- the settings of both are in range
-  abbrev BothInside : Session → Type 0
+  abbrev pub BothInside : Session → Type 0
   BothInside u = (settingsInside (u .settings) ≡ true) × (settingsInside (beside u .settings) ≡ true)
 
   -- no function that differs has been looked at
-  abbrev Quiet : Session → Type 0
+  abbrev pub Quiet : Session → Type 0
   Quiet u = AllQuiet entries (u .settings) t (u .desk)
 
-  refusal-alike : (u : Session) (x : Sample) → BothInside u → refusedBy (beside u) x ≡ refusedBy u x
+  pub refusal-alike : (u : Session) (x : Sample) → BothInside u → refusedBy (beside u) x ≡ refusedBy u x
   unfolding refusedBy insideOf
   refusal-alike u x both = rw (both .0, both .1)
 
@@ -87,7 +87,7 @@ module _ (t : Settings) where
             let e = reminder-same (reminds (s .functions)) (reminds (t .functions)) (s .x) (s .y) (t .x) (t .y) (reminder-zero (settings-only s (both .0))) (reminder-zero (settings-only (later s t) (both .1))) o in
             rw (e .0, e .1, e .2)
 
-    ran-alike : ranOf (beside u) x ≡ record { session = beside (ranOf u x .session); outcome = ranOf u x .outcome }
+    pub ran-alike : ranOf (beside u) x ≡ record { session = beside (ranOf u x .session); outcome = ranOf u x .outcome }
     unfolding ranOf meetsZone
     ran-alike =
         let top : ℕ = typeSpeed (u .train) * 100 in

@@ -41,7 +41,7 @@ use Rattle.demands.proofs.Computes.{definitions}
 
 module _ (a b : List ℕ) (h g : ℕ) (s t : Settings) (read-a : readCard a h ≡ given s) (read-b : readCard b g ≡ given t) where
   -- the settings of cards without later functions are the same
-  settings-same : SameWithout a b → s ≡ t
+  pub settings-same : SameWithout a b → s ≡ t
   settings-same m =
       its-settings a h s read-a ∙ same-card a b (m .version-1) (m .version-2) (m .common) (m .off) ∙ sym (its-settings b g t read-b)
 
@@ -49,7 +49,7 @@ module _ (a b : List ℕ) (h g : ℕ) (s t : Settings) (read-a : readCard a h �
   same-rides m train xs = rw (read-a, read-b, settings-same m)
 
   -- those of cards with the same common settings are the same but for later functions
-  settings-alike : Same a b 3 39 → t ≡ later s t
+  pub settings-alike : Same a b 3 39 → t ≡ later s t
   settings-alike same = rw (its-settings a h s read-a, its-settings b g t read-b) (common a b same)
 
   alike-rides : Same a b 3 39 → (train : ℕ) (xs : List Sample) → firstOf (untilSpeaks s t train xs) (rideOf a h train xs) ≡ firstOf (untilSpeaks s t train xs) (rideOf b g train xs)

@@ -1,9 +1,10 @@
 -- Lazy programs, by name. Of each: a statement that reads much like ours and lets it pass, and that ours does not.
-use Prim.Native.Nat.{ℕ}
+use Prim.Native.Nat.{ℕ, _+_, _*_, _≤_, _<_}
 use mathlib.Core.Bool.{Bool, true, _&&_, not}
 use mathlib.Core.List.{List, [], _∷_, _++_, map}
 use mathlib.Core.Path.{_≡_}
 use lib.Dec.{eqb}
+use lib.ListN.{length, take}
 use Rattle.leaf.specs.Choosing.{pick}
 use Rattle.leaf.specs.Bytes.{byte}
 use Rattle.leaf.specs.Checks.{Check, FirstFault}
@@ -21,12 +22,15 @@ use Rattle.session.specs.declared.Outcome.{Outcome}
 use Rattle.session.specs.declared.Outcome.the-variants.{Answered, Refused}
 use Rattle.session.specs.Session.{openSession, sampleOf, outcomeOf}
 use Rattle.session.specs.Runs.{outcomes}
-use Rattle.rides.specs.Recording.{RecordingMet, trainOf, samplesOf}
-use Rattle.rides.specs.Ride.{freshRide, startRide, shownBy}
+use Rattle.rides.specs.Recording.{goodRecording, RecordingMet, samplesIn, trainOf, placeOf, firstSamples, samplesOf}
+use Rattle.rides.specs.Ride.{freshRide, startRide, shownOf, shownBy, wholeRide}
+use Rattle.receiver.specs.Receiver.{endOf}
+use Rattle.receiver.specs.declared.Status.the-variants as status
 use Rattle.text.specs.Decimal.{newline}
 use Rattle.printed.specs.Printed.{printedRide}
 use Rattle.demands.specs.Demand1.{Exactly, RiddenAs}
 use Rattle.demands.specs.Demand3.{Printer, SilentPrint, VersionsPrint, FunctionsPrint}
+use Rattle.demands.specs.Pieces.{afterBytes, shownBytes, Going, AllBytes, asShown, Due, PartAs}
 use Rattle.demands.specs.ShutOut.{Logic, document01, Equals, OneSpeed, Repeats}
 
 -- ---- logics
@@ -194,6 +198,45 @@ pub record RidesOut : Type 0 where
   pub on-out : RidesExactly goesOn → ⊥
   pub wipes-passes : Starts wipes
   pub wipes-out : RidesExactly wipes → ⊥
+
+-- ---- lines
+
+-- what receives: settings and the bytes that have come make what has been shown; and the announced end adds something
+pub record Receives : Type 0 where
+  pub shown : Settings → List ℕ → List (Answer Told)
+  pub at-end : Settings → List ℕ → List (Answer Told)
+
+-- A statement of a line: a good recording and then the end show what the whole ride shows.
+abbrev pub ShowsWhole : Receives → Type 0
+ShowsWhole f = (s : Settings) (recording : List ℕ) → goodRecording recording ≡ true → f .shown s recording ++ f .at-end s recording ≡ asShown (wholeRide s recording)
+
+-- What is said of ours, of any: after a beginning with k complete samples exactly their answers are out;
+abbrev pub ShowsAtOnce : Receives → Type 0
+ShowsAtOnce f = (s : Settings) (bytes : List ℕ) (k j : ℕ) (u : Session) → length bytes ≡ 6 + 6 * k + j → j < 6 → Going s bytes
+    → openSession s (trainOf bytes) ≡ given u → f .shown s bytes ≡ map outcomeOf (outcomes u (firstSamples bytes k))
+
+-- and 9 is shown as soon as every completion of a sample is refused 9.
+abbrev pub RefusesAtOnce : Receives → Type 0
+RefusesAtOnce f = (s : Settings) (before part : List ℕ) → Due s before → length part ≤ 5 → AllBytes part
+    → PartAs (afterBytes s before .session) part (status.Refused 9) → f .shown s (before ++ part) ≡ f .shown s before ++ refused 9 ∷ []
+
+abbrev pub ours : Receives
+ours = record { shown = shownBytes; at-end = λ s bytes. shownOf (endOf (afterBytes s bytes) .shown) }
+
+-- one that collects everything and runs it at the end
+abbrev pub collects : Receives
+collects = record { shown = λ s bytes. []; at-end = λ s bytes. asShown (wholeRide s bytes) }
+
+-- one that looks at a sample when its sixth byte is in
+abbrev pub waits : Receives
+waits = record { shown = λ s bytes. shownBytes s (take (placeOf (samplesIn bytes)) bytes); at-end = ours .at-end }
+
+pub record LinesOut : Type 0 where
+  pub ours-passes : ShowsWhole ours × ShowsAtOnce ours × RefusesAtOnce ours
+  pub collects-passes : ShowsWhole collects
+  pub collects-out : ShowsAtOnce collects → ⊥
+  pub waits-passes : ShowsWhole waits × ShowsAtOnce waits
+  pub waits-out : RefusesAtOnce waits → ⊥
 
 -- ---- printers
 

@@ -4,6 +4,7 @@ pub mod Demand2
 pub mod Speaks
 pub mod Examples
 pub mod Demand3
+pub mod Pieces
 pub mod ShutOut
 pub mod Starred
 pub mod Lazy

@@ -1,0 +1,123 @@
+-- Request a: the start, any cutting of the bytes, the first fault of a line and what stays after it, and that a receiver is its five parts.
+use Prim.Native.Nat.{ℕ}
+use native.Mathlib.Omega.{arith}
+use mathlib.Core.List.{List, [], _∷_, _++_, append-assoc, append-nil, flatten}
+use mathlib.Core.Logic.{inl, inr}
+use mathlib.Core.Path.{_≡_, refl, sym, ap, _∙_}
+use Rattle.leaf.specs.Answers.{Answer, given, refusedAt}
+use Rattle.card.specs.declared.Settings.{Settings}
+use Rattle.card.specs.Card.{baseKind}
+use Rattle.card.specs.Ranges.{checkSettings}
+use Rattle.card.specs.Plain.{CheckedAs}
+use Rattle.card.specs.Plain as plain
+use Rattle.card.proofs.Exactly.{check-exactly}
+use Rattle.step.specs.declared.Answer.{Answer as Told}
+use Rattle.session.specs.declared.Sample.{Sample}
+use Rattle.session.specs.declared.Session.{Session}
+use Rattle.session.specs.Session.{openingVersion}
+use Rattle.receiver.specs.Receiver.{freshReceiver, startedAfter, startReceiver, quietly, refusedWith, takeOf, endOf, receivedAll, shownAll}
+use Rattle.receiver.specs.declared.Receiver.{Receiver}
+use Rattle.receiver.specs.declared.Status.{Status}
+use Rattle.receiver.specs.declared.Status.the-variants.{Ended, Refused}
+use Rattle.receiver.proofs.Receivers.{received-append, shown-append, received-none, received-cut, shown-cut, refused-stays, refused-ends, ended-takes, ended-ends}
+use Rattle.receiver.proofs.SixBytes.{fault}
+use Rattle.receiver.proofs.Steps.{Step, step-of}
+use Rattle.printed_pieces.proofs.PieceTexts.{pieces-text, refused-prints}
+use Rattle.demands.specs.Demand1.{Exactly}
+use Rattle.demands.specs.Pieces.{afterBytes, shownBytes, Going, StartedAs, Cut, Fault, Still}
+use Rattle.demands.specs.Pieces as paper
+use Rattle.demands.proofs.Answered.{exactly}
+
+-- ---- the start
+
+module _ (s : Settings) where
+  started-is : StartedAs s (startReceiver s)
+  unfolding startReceiver
+  started-is = judged (checkSettings openingVersion s) (check-exactly openingVersion s _ .0 refl)
+    where
+      judged : (a : Answer Unit) → CheckedAs baseKind openingVersion s a → StartedAs s (startedAfter a s)
+      judged a (plain.CheckedAs.out-of-range at f) = paper.StartedAs.refused-5 at f
+      judged a (plain.CheckedAs.in-range m) = paper.StartedAs.ready m
+
+  started-only : (a : Answer Receiver) → StartedAs s a → startReceiver s ≡ a
+  unfolding startReceiver
+  started-only a (paper.StartedAs.refused-5 at f) = rw (check-exactly openingVersion s (refusedAt 5 at) .1 (plain.CheckedAs.out-of-range at f))
+  started-only a (paper.StartedAs.ready m) = rw (check-exactly openingVersion s (given tt) .1 (plain.CheckedAs.in-range m))
+
+pub starts : (settings : Settings) → Exactly (startReceiver settings) (StartedAs settings)
+starts settings = exactly (StartedAs settings) (started-is settings) (started-only settings)
+
+-- ---- any cutting
+
+pub cuts : (r : Receiver) (pieces : List (List ℕ)) → Cut r pieces
+cuts r pieces = record { receiver = received-cut r pieces; shown = shown-cut r pieces; text = λ columns. pieces-text columns r pieces }
+
+-- ---- the first byte at which a line is refused
+
+module _ (settings : Settings) (bytes : List ℕ) (n : ℕ) (shut : afterBytes settings bytes .status ≡ Refused n) where
+  fault-here : (before rest : List ℕ) (b m : ℕ) → bytes ≡ before ++ b ∷ rest → Going settings before
+      → takeOf (afterBytes settings before) b ≡ refusedWith m (afterBytes settings before) → Fault settings bytes n
+  unfolding refusedWith
+  fault-here before rest b m cut going there =
+      let r = afterBytes settings before in
+      let all = fault r m b rest there in
+      let after = ap (afterBytes settings) cut ∙ received-append (freshReceiver settings) before (b ∷ rest) ∙ ap (λ (q : Receiver × List (Answer Told)). q .0) all in
+      let number : Refused m ≡ Refused n = sym (ap (λ (q : Receiver). q .status) after) ∙ shut in
+      let same : m ≡ n = cc in
+      record {
+        before = before;
+        at = b;
+        behind = rest;
+        cut = cut;
+        going = going;
+        refused-there = rw same at there;
+        stays = rw same at after;
+        shown = rw same at (ap (shownBytes settings) cut ∙ shown-append (freshReceiver settings) before (b ∷ rest) ∙ ap (λ (q : Receiver × List (Answer Told)). shownBytes settings before ++ q .1) all);
+      }
+
+  fault-in : (before rest : List ℕ) → bytes ≡ before ++ rest → Going settings before → Fault settings bytes n
+  unfolding receivedAll
+  fault-in before [] cut going =
+      let still = ap (λ (l : List ℕ). afterBytes settings l .status) (cut ∙ append-nil before) ∙ going in
+      let z : _≡_ {A = ℕ} 0 1 = cc in
+      absurd (omega arith)
+  fault-in before (b ∷ rest) cut going = cases (step-of r b) (fault-in (before ++ b ∷ []) rest (cut ∙ sym (append-assoc before (b ∷ []) rest)))
+    where
+      r : Receiver
+      r = afterBytes settings before
+
+      cases : Step r (takeOf r b) → (Going settings (before ++ b ∷ []) → Fault settings bytes n) → Fault settings bytes n
+      cases (inl k) later = later (ap (λ (q : Receiver). q .status) (received-append (freshReceiver settings) before (b ∷ [])) ∙ k .going)
+      cases (inr (m, out)) later = fault-here before rest b m cut going (out .now going)
+
+pub faults : (settings : Settings) (bytes : List ℕ) (n : ℕ) → afterBytes settings bytes .status ≡ Refused n → Fault settings bytes n
+unfolding receivedAll
+faults settings bytes n shut = fault-in settings bytes n shut [] bytes refl refl
+
+-- ---- once refused, and after a good end
+
+pub refused-for-good : (r : Receiver) (n : ℕ) → r .status ≡ Refused n → (pieces : List (List ℕ)) → Still r pieces
+refused-for-good r n e pieces =
+    let still = refused-stays r n (flatten pieces) e in
+    record {
+      receiver = received-cut r pieces ∙ still .0;
+      shown = shown-cut r pieces ∙ still .1;
+      text = λ columns. pieces-text columns r pieces ∙ refused-prints columns r n (flatten pieces) e;
+      at-end = refused-ends r n e;
+    }
+
+pub ended-for-good : (r : Receiver) → r .status ≡ Ended
+    → (receivedAll r [] ≡ r) × (shownAll r [] ≡ []) × (endOf r ≡ quietly r) × ((b : ℕ) → takeOf r b ≡ refusedWith 14 r)
+ended-for-good r e = (received-none r .0, received-none r .1, ended-ends r e, λ b. ended-takes r b e)
+
+-- ---- a receiver is its five parts
+
+pub no-more : (r q : Receiver) → r .session ≡ q .session → r .stated ≡ q .stated → r .taken ≡ q .taken → r .part ≡ q .part
+    → r .status ≡ q .status → r ≡ q
+no-more r q a b c d e = parts
+  where
+    with-parts : Session → ℕ → ℕ → Sample → Status → Receiver
+    with-parts s stated taken part now = record { session = s; stated = stated; taken = taken; part = part; status = now }
+
+    parts : with-parts (r .session) (r .stated) (r .taken) (r .part) (r .status) ≡ with-parts (q .session) (q .stated) (q .taken) (q .part) (q .status)
+    parts = cc

@@ -1,0 +1,324 @@
+-- REQUEST a. Document 02 a), "The ride over the serial line": "The desk now sends its ride over a slow line, and the receiver gets what has
+-- arrived, sometimes nothing. Take a recording as it comes, holding at most one unfinished sample between calls, and give for a good
+-- recording the same answers and end as for the whole; for a bad one, the answers of the samples complete before the fault, then the refusal.
+-- The end is announced by the sender; a recording that stops early is refused then. Demands 2 and 3 read for the pieces put together.
+-- Refusals: 14, 7 or a sample's number, at the first byte that makes it certain; later pieces get the same."
+--
+-- What a byte and an announced end do to a receiver is defined in crate `receiver`, the lines that they print in `printed`. Here it is
+-- said what that comes to, of bytes put together; that the cutting does not matter is the first statement. (a1 to a11 are 02's readings.)
+use Prim.Native.Nat.{ℕ, _+_, _*_, _≤_, _<_}
+use mathlib.Core.Bool.{true, false}
+use mathlib.Core.List.{List, [], _∷_, _++_, map, flatten}
+use mathlib.Core.Logic.{_↔_}
+use mathlib.Core.Path.{_≡_}
+use lib.ListN.{length, drop}
+use lib.Dec.{eqb}
+use Rattle.leaf.specs.Choosing.{pick}
+use Rattle.leaf.specs.Answers.{Answer, given, refused, refusedAt}
+use Rattle.leaf.specs.Bytes.{byte, word, long}
+use Rattle.card.specs.declared.Settings.{Settings}
+use Rattle.card.specs.Card.{baseKind, Same}
+use Rattle.card.specs.CardA.{cardA}
+use Rattle.card.specs.Plain.{FirstOut, SettingsMet}
+use Rattle.card.specs.Reading.{readCard}
+use Rattle.step.specs.declared.Answer.{Answer as Told}
+use Rattle.session.specs.declared.Sample.{Sample}
+use Rattle.session.specs.declared.Session.{Session}
+use Rattle.session.specs.declared.Outcome.{Outcome}
+use Rattle.session.specs.declared.Outcome.the-variants as outcome
+use Rattle.session.specs.Session.{openingVersion, openSession, sampleOf, outcomeOf}
+use Rattle.session.specs.Runs.{after, outcomes, allAccepted}
+use Rattle.rides.specs.Recording.{goodRecording, samplesIn, trainOf, placeOf, firstSamples, samplesOf}
+use Rattle.rides.specs.Ride.{freshRide, numberOf, shownOf, runOf, wholeRide}
+use Rattle.receiver.specs.Receiver.{freshReceiver, startReceiver, quietly, refusedWith, takeOf, endOf, receivedAll, shownAll, receivedPieces, shownPieces, betweenSamples}
+use Rattle.receiver.specs.declared.Receiver.{Receiver}
+use Rattle.receiver.specs.declared.Status.{Status}
+use Rattle.receiver.specs.declared.Status.the-variants.{Open, Ended, Refused}
+use Rattle.laws.specs.Ranges.{Inside}
+use Rattle.printed.specs.declared.Columns.{Columns}
+use Rattle.printed.specs.Printed.{highest, printedRide}
+use Rattle.printed_pieces.specs.Pieces.{pieceText, piecesText, linePrinted}
+use Rattle.demands.specs.Demand1.{Exactly, refusalBy}
+use Rattle.demands.specs.Demand3.{SameSpeaking, SameWithout}
+use Rattle.demands.specs.Speaks.{untilSpeaks}
+
+-- ---- a line: the settings that its receiver was started on, and the bytes that have come
+
+-- the receiver after them, and what they show
+abbrev pub afterBytes : Settings → List ℕ → Receiver
+afterBytes settings bytes = receivedAll (freshReceiver settings) bytes
+
+abbrev pub shownBytes : Settings → List ℕ → List (Answer Told)
+shownBytes settings bytes = shownAll (freshReceiver settings) bytes
+
+-- not refused so far
+abbrev pub Going : Settings → List ℕ → Type 0
+Going settings bytes = afterBytes settings bytes .status ≡ Open
+
+-- the receiver after them and the announced end, and all that is shown then
+abbrev pub afterEnd : Settings → List ℕ → Receiver
+afterEnd settings bytes = endOf (afterBytes settings bytes) .receiver
+
+abbrev pub shownToEnd : Settings → List ℕ → List (Answer Told)
+shownToEnd settings bytes = shownBytes settings bytes ++ shownOf (endOf (afterBytes settings bytes) .shown)
+
+-- numbers that a byte can hold
+abbrev pub AllBytes : List ℕ → Type 0
+AllBytes [] = Unit
+AllBytes (b ∷ rest) = (b < 256) × AllBytes rest
+
+-- ---- the start: "The card is judged when the receiver starts, before any byte" (a11)
+
+pub data StartedAs (settings : Settings) : Answer Receiver → Type 0 where
+  refused-5 : (at : ℕ) → FirstOut baseKind openingVersion settings at → StartedAs settings (refusedAt 5 at)
+  ready : SettingsMet openingVersion settings → StartedAs settings (given (freshReceiver settings))
+
+-- ---- 1. "any cutting of the same bytes into pieces": "the receiver gets what has arrived, sometimes nothing"
+
+pub record Cut (r : Receiver) (pieces : List (List ℕ)) : Type 0 where
+  pub receiver : receivedPieces r pieces ≡ receivedAll r (flatten pieces)
+  pub shown : shownPieces r pieces ≡ shownAll r (flatten pieces)
+  pub text : (columns : Columns) → piecesText columns r pieces ≡ pieceText columns r (flatten pieces)
+
+-- ---- 2. "give for a good recording the same answers and end as for the whole"
+
+-- what a whole ride shows, as a list: a refusal is all there is
+abbrev pub asShown : Answer (List (Answer Told)) → List (Answer Told)
+asShown (given shown) = shown
+asShown (refused n) = refused n ∷ []
+asShown (refusedAt n place) = refused n ∷ []
+
+-- the end of a ride that no sample ended, or the one with this number did
+abbrev pub endedBy : ℕ → Status
+endedBy n = pick (eqb n 0) Ended (Refused n)
+
+pub record AsWhole (settings : Settings) (recording : List ℕ) (s : Session) : Type 0 where
+  pub session : afterEnd settings recording .session ≡ runOf (freshRide s) (samplesOf recording) .session
+  pub status : afterEnd settings recording .status ≡ endedBy (runOf (freshRide s) (samplesOf recording) .ended)
+
+-- ---- 3. "the answers of the samples complete before the fault"
+
+-- of a beginning with k complete samples: they were all accepted, from the session that was opened, and exactly their answers are out
+pub record AtOnce (settings : Settings) (bytes : List ℕ) (k : ℕ) : Type 0 where
+  pub opened : Session
+  pub opens : openSession settings (trainOf bytes) ≡ given opened
+  pub accepted : allAccepted opened (firstSamples bytes k) ≡ true
+  pub answers : shownBytes settings bytes ≡ map outcomeOf (outcomes opened (firstSamples bytes k))
+  pub as-many : length (shownBytes settings bytes) ≡ k
+  -- "holding at most one unfinished sample between calls": it is what the bytes behind those samples, fewer than six, make of the session
+  -- after them, the stated length and how many bytes came before
+  pub holds : afterBytes settings bytes
+      ≡ receivedAll (betweenSamples (after opened (firstSamples bytes k)) (long bytes 0) (placeOf k)) (drop (placeOf k) bytes)
+
+-- ".. then the refusal": of a line that is refused, the first byte at which it is. What was shown before it stays, its number comes last,
+-- and the bytes behind it are not looked at (a6)
+pub record Fault (settings : Settings) (bytes : List ℕ) (n : ℕ) : Type 0 where
+  pub before : List ℕ
+  pub at : ℕ
+  pub behind : List ℕ
+  pub cut : bytes ≡ before ++ at ∷ behind
+  pub going : Going settings before
+  pub refused-there : takeOf (afterBytes settings before) at ≡ refusedWith n (afterBytes settings before)
+  pub stays : afterBytes settings bytes ≡ refusedWith n (afterBytes settings before) .receiver
+  pub shown : shownBytes settings bytes ≡ shownBytes settings before ++ refused n ∷ []
+
+-- ---- 4. "at the first byte that makes it certain", and not before
+
+-- a good recording begins with these bytes
+pub record BeginsGood (bytes : List ℕ) : Type 0 where
+  pub rest : List ℕ
+  pub real : AllBytes rest
+  pub good : goodRecording (bytes ++ rest) ≡ true
+
+-- in the head: 14 where no good recording begins so; 7 at byte 5, for a type that opening refuses (a3)
+pub data HeadAs (settings : Settings) (bytes : List ℕ) : Status → Type 0 where
+  refused-14 : (BeginsGood bytes → ⊥) → HeadAs settings bytes (Refused 14)
+  refused-7 : BeginsGood bytes → length bytes ≡ 6 → openSession settings (trainOf bytes) ≡ refused 7 → HeadAs settings bytes (Refused 7)
+  going : BeginsGood bytes → (length bytes ≡ 6 → (s : Session) × (openSession settings (trainOf bytes) ≡ given s)) → HeadAs settings bytes Open
+
+-- the sample that six bytes are: "0–1 pulses, 2 beacon, 3–4 buttons, 5 mode" (a1)
+abbrev pub sampleIn : List ℕ → Sample
+sampleIn six = record { pulses = word six 0; beacon = byte six 2; buttons = word six 3; mode = byte six 5 }
+
+-- the bytes of a part completed to a sample
+pub record Completed (part rest : List ℕ) : Type 0 where
+  pub real : AllBytes rest
+  pub six : length (part ++ rest) ≡ 6
+
+-- inside a sample, of fewer than six bytes: 9 where every completion is refused 9
+pub data PartAs (s : Session) (part : List ℕ) : Status → Type 0 where
+  refused-9 : ((rest : List ℕ) → Completed part rest → sampleOf s (sampleIn (part ++ rest)) ≡ refusalBy 9 s) → PartAs s part (Refused 9)
+  going : (rest : List ℕ) → Completed part rest → (sampleOf s (sampleIn (part ++ rest)) ≡ refusalBy 9 s → ⊥) → PartAs s part Open
+
+-- the status after a complete sample
+abbrev pub statusAfter : Outcome → Status
+statusAfter (outcome.Answered a) = Open
+statusAfter (outcome.Refused why) = Refused (numberOf why)
+
+-- a complete sample is what `sample` says
+pub record Complete (settings : Settings) (before six : List ℕ) (s : Session) : Type 0 where
+  pub shown : shownBytes settings (before ++ six) ≡ shownBytes settings before ++ outcomeOf (sampleOf s (sampleIn six) .outcome) ∷ []
+  pub session : afterBytes settings (before ++ six) .session ≡ sampleOf s (sampleIn six) .session
+  pub status : afterBytes settings (before ++ six) .status ≡ statusAfter (sampleOf s (sampleIn six) .outcome)
+
+-- a line between two samples, of which one more is due
+pub record Due (settings : Settings) (before : List ℕ) : Type 0 where
+  pub going : Going settings before
+  pub between : (k : ℕ) × (length before ≡ placeOf k)
+  pub due : length before < long before 0
+
+-- ---- 5. "later pieces get the same"
+
+-- of a receiver that is refused, whatever comes: nothing changes, nothing is shown or printed
+pub record Still (r : Receiver) (pieces : List (List ℕ)) : Type 0 where
+  pub receiver : receivedPieces r pieces ≡ r
+  pub shown : shownPieces r pieces ≡ []
+  pub text : (columns : Columns) → piecesText columns r pieces ≡ []
+  pub at-end : endOf r ≡ quietly r
+
+-- what an announced end leaves and shows
+abbrev pub atEnd : Settings → List ℕ → Status × List (Answer Told)
+atEnd settings bytes = (afterEnd settings bytes .status, shownOf (endOf (afterBytes settings bytes) .shown))
+
+-- "a recording that stops early is refused then" (a2, a8): an end is good where the bytes are a good recording, and else 14, which is shown
+pub data EndAs (settings : Settings) (bytes : List ℕ) : Status × List (Answer Told) → Type 0 where
+  ended : Going settings bytes → goodRecording bytes ≡ true → EndAs settings bytes (Ended, [])
+  early : Going settings bytes → goodRecording bytes ≡ false → EndAs settings bytes (Refused 14, refused 14 ∷ [])
+  refused-before : (n : ℕ) → afterBytes settings bytes .status ≡ Refused n → EndAs settings bytes (Refused n, [])
+
+-- ---- 6. "Demands 2 and 3 read for the pieces put together"
+
+-- what a line shows in these pieces, and whether it goes on; and with its end
+pub record Line : Type 0 where
+  pub shown : List (Answer Told)
+  pub status : Status
+  pub shown-at-end : List (Answer Told)
+  pub end : Status
+
+abbrev pub lineOn : Settings → List (List ℕ) → Line
+lineOn settings pieces =
+    let r = receivedPieces (freshReceiver settings) pieces in
+    record { shown = shownPieces (freshReceiver settings) pieces; status = r .status; shown-at-end = shownOf (endOf r .shown); end = endOf r .receiver .status }
+
+-- on a card that was read, or not
+abbrev pub lineFrom : Answer Settings → List (List ℕ) → Answer Line
+lineFrom (given settings) pieces = given (lineOn settings pieces)
+lineFrom (refused n) pieces = refused n
+lineFrom (refusedAt n place) pieces = refusedAt n place
+
+abbrev pub lineOf : List ℕ → ℕ → List (List ℕ) → Answer Line
+lineOf area highest pieces = lineFrom (readCard area highest) pieces
+
+-- no complete sample of these bytes is one at which a function that differs speaks (what follows a refusal adds nothing, by statement 5: there it
+-- is said of the bytes up to the fault)
+abbrev pub NoneSpeaks : Settings → Settings → List ℕ → Type 0
+NoneSpeaks s t bytes = untilSpeaks s t (trainOf bytes) (samplesOf bytes) ≡ samplesIn bytes
+
+-- ---- the statements
+
+pub record Pieces : Type 0 where
+  pub starts : (settings : Settings) → Exactly (startReceiver settings) (StartedAs settings)
+  -- 1. Any cutting of the same bytes into pieces, empty ones included, of any receiver: the same receiver, with its status, the same answers
+  -- in order and the same text as of the bytes in one piece.
+  pub cuts : (r : Receiver) (pieces : List (List ℕ)) → Cut r pieces
+  -- 2. A good recording, and then the end: the answers of the whole ride up to its refusal, its session and its end.
+  pub answers-as-whole : (settings : Settings) (recording : List ℕ) → goodRecording recording ≡ true
+      → shownToEnd settings recording ≡ asShown (wholeRide settings recording)
+  pub ends-as-whole : (settings : Settings) (recording : List ℕ) (s : Session) → goodRecording recording ≡ true
+      → openSession settings (trainOf recording) ≡ given s → AsWhole settings recording s
+  -- So is the text, with any card: heading, lines and refusal line are those of the printed ride.
+  pub prints-as-whole : (columns : Columns) (card : List ℕ) (pieces : List (List ℕ)) → goodRecording (flatten pieces) ≡ true
+      → linePrinted columns card pieces ≡ printedRide columns card (flatten pieces)
+  -- 3. After every beginning of 6 + 6k + j bytes that is not refused, j < 6, exactly k answers are out; in the head none. And every refused line
+  -- has its fault: what was complete before is shown, then the number.
+  pub at-once : (settings : Settings) (bytes : List ℕ) (k j : ℕ) → length bytes ≡ 6 + 6 * k + j → j < 6 → Going settings bytes
+      → AtOnce settings bytes k
+  pub head-shows-none : (settings : Settings) (bytes : List ℕ) → length bytes < 6 → Going settings bytes → shownBytes settings bytes ≡ []
+  pub faults : (settings : Settings) (bytes : List ℕ) (n : ℕ) → afterBytes settings bytes .status ≡ Refused n → Fault settings bytes n
+  -- 4. Certain, and not before: in the head; inside a sample; a complete sample. Of every line, whose session is inside its ranges.
+  pub heads : (settings : Settings) (bytes : List ℕ) → SettingsMet openingVersion settings → length bytes ≤ 6
+      → Exactly (afterBytes settings bytes .status) (HeadAs settings bytes)
+  pub inside : (settings : Settings) (before : List ℕ) → Due settings before → Inside (afterBytes settings before .session)
+  pub parts : (settings : Settings) (before part : List ℕ) → Due settings before → length part ≤ 5 → AllBytes part
+      → Exactly (afterBytes settings (before ++ part) .status) (PartAs (afterBytes settings before .session) part)
+  pub samples : (settings : Settings) (before six : List ℕ) → Due settings before → length six ≡ 6
+      → Complete settings before six (afterBytes settings before .session)
+  -- 5. Once refused, the same number and nothing else, for every later piece and end; a byte past the stated length is 14; an end that is early
+  -- is 14. After a good end nothing changes but that a byte is 14 (a9).
+  pub refused-for-good : (r : Receiver) (n : ℕ) → r .status ≡ Refused n → (pieces : List (List ℕ)) → Still r pieces
+  pub past : (settings : Settings) (bytes : List ℕ) (b : ℕ) → Going settings bytes → 6 ≤ length bytes → length bytes ≡ long bytes 0
+      → takeOf (afterBytes settings bytes) b ≡ refusedWith 14 (afterBytes settings bytes)
+  pub ends : (settings : Settings) (bytes : List ℕ) → Exactly (atEnd settings bytes) (EndAs settings bytes)
+  pub ended-for-good : (r : Receiver) → r .status ≡ Ended
+      → (receivedAll r [] ≡ r) × (shownAll r [] ≡ []) × (endOf r ≡ quietly r) × ((b : ℕ) → takeOf r b ≡ refusedWith 14 r)
+  -- 6. Demand 3 of what a receiver shows, for every cutting. 3a, 3b; 3c: as long as no function that differs has spoken, so that all is alike up
+  -- to the last byte before the sample at which one speaks is complete.
+  pub silent-bytes : (a b : List ℕ) (h : ℕ) → SameSpeaking a b → (pieces : List (List ℕ)) → lineOf b h pieces ≡ lineOf a h pieces
+  pub versions-silent : (a b : List ℕ) (h g : ℕ) (s t : Settings) → readCard a h ≡ given s → readCard b g ≡ given t → SameWithout a b
+      → (pieces : List (List ℕ)) → lineOf a h pieces ≡ lineOf b g pieces
+  pub functions-silent : (a b : List ℕ) (h g : ℕ) (s t : Settings) → readCard a h ≡ given s → readCard b g ≡ given t → Same a b 3 39
+      → (pieces : List (List ℕ)) → NoneSpeaks s t (flatten pieces) → lineOf a h pieces ≡ lineOf b g pieces
+  -- and the same of the line as it is printed
+  pub silent-print : (columns : Columns) (a b : List ℕ) → SameSpeaking a b
+      → (pieces : List (List ℕ)) → linePrinted columns a pieces ≡ linePrinted columns b pieces
+  pub versions-print : (columns : Columns) (a b : List ℕ) (s t : Settings) → readCard a highest ≡ given s → readCard b highest ≡ given t → SameWithout a b
+      → (pieces : List (List ℕ)) → linePrinted columns a pieces ≡ linePrinted columns b pieces
+  pub functions-print : (columns : Columns) (a b : List ℕ) (s t : Settings) → readCard a highest ≡ given s → readCard b highest ≡ given t → Same a b 3 39
+      → (pieces : List (List ℕ)) → NoneSpeaks s t (flatten pieces) → linePrinted columns a pieces ≡ linePrinted columns b pieces
+  -- 7. A receiver is session, stated length, bytes taken, unfinished sample and status, and nothing else: two that agree on these are one, and so
+  -- answer alike for ever.
+  pub no-more : (r q : Receiver) → r .session ≡ q .session → r .stated ≡ q .stated → r .taken ≡ q .taken → r .part ≡ q .part
+      → r .status ≡ q .status → r ≡ q
+
+-- ---- both sides of each line, on card A (vmax 160, tick length 100)
+
+abbrev pub statusesOf : List (List ℕ) → List Status
+statusesOf lines = map (λ bytes. afterBytes cardA bytes .status) lines
+
+-- the head of a ride of one sample, type 6
+abbrev pub one : List ℕ → List ℕ
+one sample = 0x00 ∷ 0x00 ∷ 0x00 ∷ 0x0C ∷ 0x01 ∷ 0x06 ∷ sample
+
+-- document 01's ride, cut into 15 and 9 bytes
+abbrev pub first15 : List ℕ
+first15 = 0x00 ∷ 0x00 ∷ 0x00 ∷ 0x18 ∷ 0x01 ∷ 0x06 ∷ 0x00 ∷ 0x00 ∷ 0x00 ∷ 0x00 ∷ 0x00 ∷ 0x01 ∷ 0x00 ∷ 0x64 ∷ 0x07 ∷ []
+
+abbrev pub last9 : List ℕ
+last9 = 0x00 ∷ 0x00 ∷ 0x01 ∷ 0x00 ∷ 0x64 ∷ 0x00 ∷ 0x00 ∷ 0x10 ∷ 0x01 ∷ []
+
+abbrev pub told : ℕ → ℕ → ℕ → Answer Told
+told speed lamps cause = given (record { speed = speed; lamps = lamps; cause = cause; icon = 0; limit = false })
+
+pub record LineExamples : Type 0 where
+  -- "14 is certain at byte 0 or 1 not 0; byte 2 above EA; byte 3 when the length is not 6 + 6n, n ≤ 10,000 (greatest 0000EA66; 00000000 is bad);
+  -- byte 4 not 1; the first byte past the stated length" (a2)
+  pub good-heads : statusesOf
+      ([] ∷ (0x00 ∷ []) ∷ (0x00 ∷ 0x00 ∷ []) ∷ (0x00 ∷ 0x00 ∷ 0xEA ∷ []) ∷ (0x00 ∷ 0x00 ∷ 0xEA ∷ 0x66 ∷ []) ∷ (0x00 ∷ 0x00 ∷ 0x00 ∷ 0x06 ∷ [])
+      ∷ (0x00 ∷ 0x00 ∷ 0x00 ∷ 0x06 ∷ 0x01 ∷ []) ∷ (0x00 ∷ 0x00 ∷ 0x00 ∷ 0x06 ∷ 0x01 ∷ 0x06 ∷ []) ∷ [])
+      ≡ Open ∷ Open ∷ Open ∷ Open ∷ Open ∷ Open ∷ Open ∷ Open ∷ []
+  pub bad-heads : statusesOf
+      ((0x01 ∷ []) ∷ (0x00 ∷ 0x01 ∷ []) ∷ (0x00 ∷ 0x00 ∷ 0xEB ∷ []) ∷ (0x00 ∷ 0x00 ∷ 0xEA ∷ 0x67 ∷ []) ∷ (0x00 ∷ 0x00 ∷ 0xEA ∷ 0x6C ∷ [])
+      ∷ (0x00 ∷ 0x00 ∷ 0x00 ∷ 0x00 ∷ []) ∷ (0x00 ∷ 0x00 ∷ 0x00 ∷ 0x07 ∷ []) ∷ (0x00 ∷ 0x00 ∷ 0x00 ∷ 0x06 ∷ 0x02 ∷ [])
+      ∷ (0x00 ∷ 0x00 ∷ 0x00 ∷ 0x06 ∷ 0x01 ∷ 0x06 ∷ 0x00 ∷ []) ∷ [])
+      ≡ Refused 14 ∷ Refused 14 ∷ Refused 14 ∷ Refused 14 ∷ Refused 14 ∷ Refused 14 ∷ Refused 14 ∷ Refused 14 ∷ Refused 14 ∷ []
+  -- "7 is certain at byte 5" (a3), also in a recording that then stops early (a5)
+  pub types : statusesOf
+      ((0x00 ∷ 0x00 ∷ 0x00 ∷ 0x0C ∷ 0x01 ∷ 0x00 ∷ []) ∷ (0x00 ∷ 0x00 ∷ 0x00 ∷ 0x0C ∷ 0x01 ∷ 0x06 ∷ []) ∷ (0x00 ∷ 0x00 ∷ 0x00 ∷ 0x0C ∷ 0x01 ∷ 0x09 ∷ []) ∷ [])
+      ≡ Refused 7 ∷ Open ∷ Refused 7 ∷ []
+  -- "9 is certain at a sample's byte 2 (above 11 ..), 3 (above 7) or 5 (mode). 10 and 11 only at 5, since a 9 could still go before them" (a4)
+  pub parts : statusesOf
+      (one (0xFF ∷ 0xFF ∷ []) ∷ one (0xFF ∷ 0xFF ∷ 0x0B ∷ []) ∷ one (0xFF ∷ 0xFF ∷ 0x0C ∷ []) ∷ one (0xFF ∷ 0xFF ∷ 0xFF ∷ []) ∷ one (0xFF ∷ 0xFF ∷ 0x0B ∷ 0x07 ∷ [])
+      ∷ one (0xFF ∷ 0xFF ∷ 0x0B ∷ 0x08 ∷ []) ∷ one (0xFF ∷ 0xFF ∷ 0x0B ∷ 0x07 ∷ 0xFF ∷ []) ∷ [])
+      ≡ Open ∷ Open ∷ Refused 9 ∷ Refused 9 ∷ Open ∷ Refused 9 ∷ Open ∷ []
+  pub modes : statusesOf
+      (one (0xFF ∷ 0xFF ∷ 0x0B ∷ 0x07 ∷ 0xFF ∷ 0x00 ∷ []) ∷ one (0xFF ∷ 0xFF ∷ 0x0B ∷ 0x07 ∷ 0xFF ∷ 0x03 ∷ []) ∷ one (0xFF ∷ 0xFF ∷ 0x0B ∷ 0x07 ∷ 0xFF ∷ 0x01 ∷ [])
+      ∷ one (0x00 ∷ 0x01 ∷ 0x0B ∷ 0x07 ∷ 0xFF ∷ 0x02 ∷ []) ∷ one (0x00 ∷ 0x01 ∷ 0x0B ∷ 0x07 ∷ 0xFF ∷ 0x01 ∷ []) ∷ [])
+      ≡ Refused 9 ∷ Refused 9 ∷ Refused 10 ∷ Refused 11 ∷ Open ∷ []
+  -- "With all stated bytes in, the recording stays open until the end is announced; the good end comes then, n = 0 too" (a8); "FFFF, then the end
+  -- is 14" (a4)
+  pub ends : map (λ bytes. afterEnd cardA bytes .status)
+      ((0x00 ∷ 0x00 ∷ 0x00 ∷ 0x06 ∷ 0x01 ∷ 0x06 ∷ []) ∷ [] ∷ one [] ∷ one (0xFF ∷ 0xFF ∷ []) ∷ (first15 ++ last9) ∷ first15 ∷ [])
+      ≡ Ended ∷ Refused 14 ∷ Refused 14 ∷ Refused 14 ∷ Ended ∷ Refused 14 ∷ []
+  -- document 01's ride in pieces of 15 and 9 bytes, an empty one between them
+  pub cut-15 : shownPieces (freshReceiver cardA) (first15 ∷ [] ∷ []) ≡ told 10000 0 0 ∷ []
+  pub cut-15-9 : shownPieces (freshReceiver cardA) (first15 ∷ [] ∷ last9 ∷ []) ≡ told 10000 0 0 ∷ told 8000 16 0 ∷ told 8000 0 0 ∷ []
