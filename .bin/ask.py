@@ -1,4 +1,4 @@
-"""ask.py PROGRAM [ARGUMENT..]: runs ride, trace or show_card for a person, with a status; a refused ride is said in words too."""
+"""ask.py PROGRAM [ARGUMENT..]: runs ride, trace, receive or show_card for a person, with a status; a refused ride is said in words too."""
 
 import sys
 
@@ -15,6 +15,11 @@ cause of the brake. Where the ride is refused the last line is `refused` and the
 
 Prints the ride as ./ride does, with two more columns: the crossing icon (0 none, 1 protected, 2 unprotected) and whether the limit
 stands (0, 1).""",
+    "receive": """usage: ./receive CARD [SIZE] < LINE
+
+Prints the ride as ./ride does while its bytes come: each line when its sample is complete, a refusal at the byte that makes it certain.
+The end of LINE is the recording's end, as when the writer of a pipe closes it. A read takes what has come, SIZE bytes at most: 1 to 4096,
+in one to four digits, 64 when not said.""",
     "show_card": """usage: ./show_card FILE
 
 Lists the settings of the card in FILE, or says why it is refused. Where FILE is - the card comes on standard input. bench/unhex makes
@@ -22,11 +27,11 @@ bytes of a hex dump.""",
 }
 
 
-def ride(name, card, given=None):
+def ride(name, card, given=None, more=()):
     """Prints the ride of a recording, standard input where no other is given; a refusal is said in words too. Gives the status."""
     recording = given.fileno() if given else 0
     start = plain.place(recording)
-    heard = programs.pass_on(name, [card], given)
+    heard = programs.pass_on(name, [card, *more], given)
     if heard.refusal:
         answered = heard.lines - 2  # the heading and the refusal are lines too
         desk.say_refusal(int(heard.refusal.split()[1]), answered, plain.read_again(card), plain.read_from(recording, start))
@@ -41,7 +46,15 @@ def show_card(card):
         return programs.pass_on("show_card", [area.name]).status()
 
 
+def receive(card, *size):
+    """Prints the ride of a recording as it comes. Gives the status. A serial device is a terminal too, so one is not refused."""
+    plain.check_input("recording")
+    return ride("receive", card, more=size)
+
+
 def main(name, arguments):
+    if name == "receive" and len(arguments) in (1, 2):
+        return receive(*arguments)
     if len(arguments) != 1:
         raise plain.Usage
     if name == "show_card":

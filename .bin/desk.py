@@ -60,6 +60,7 @@ def names(mask):
 
 HEAD = 6
 MOST = HEAD + 6 * 10_000
+IN_RANGE = bytes((0, 0, 0, 0, 0, 1))  # a sample's bytes
 
 
 class Card(NamedTuple):
@@ -184,9 +185,11 @@ def recording_fault(recording):
 
 
 def sample_fault(number, answered, card, recording):
-    """A refusal of the sample behind those that were answered."""
+    """A refusal of the sample behind those that were answered. Over a line it may come before the sample's last byte: those that are
+    not there are no fault."""
     at = HEAD + 6 * answered
-    sample = Sample.of(recording[at:at + 6])
+    there = recording[at:at + 6]
+    sample = Sample.of(there + IN_RANGE[len(there):])
     if number == 9:
         return range_fault(sample)
     if number == 10:

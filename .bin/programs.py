@@ -39,8 +39,10 @@ class Heard:
 
     def complaint(self, line):
         """A line of standard error. The system knows more of a file that cannot be read."""
+        if line.startswith(b"usage: "):
+            raise plain.Usage
         self.failed = True
-        if line.startswith(b"cannot read "):
+        if line.startswith(b"cannot read ") and line != b"cannot read standard input":
             line += why_unreadable(line[len(b"cannot read "):])
         plain.complain(plain.encoded(f"{self.name}: ") + line)
 
@@ -81,7 +83,7 @@ def pass_on(name, arguments, stdin=None, put=bytes):
                           close_fds=False) as program:  # an argument may be /dev/fd/63
         try:
             pass_lines(program, heard, put)
-        except (plain.Ends, plain.Enough):
+        except (plain.Ends, plain.Enough, plain.Usage):
             program.kill()
             raise
     if program.returncode != 0:

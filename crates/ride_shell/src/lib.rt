@@ -1,13 +1,16 @@
-// What `ride` and `trace` share: the card from a file, the recording from standard input, the text to standard output.
+// What `ride` and `trace` share: the card from a file, the recording from standard input, the text to standard output; and
+// the first of it, heading and card, with `receive`.
 //
 // All that is printed below the heading and of a card that could be read is one text of `printed::print_ride`. The bytes
 // read and written are the system's, of which no contract speaks.
 ghost use mathlib.Core.Path.{_≡_};
 ghost use lib.ListN.{length};
+ghost use Rattle.io.specs.Counts.{Counts};
 use printed::Columns;
 use printed::print_heading;
 use printed::print_ride;
 use shell::say;
+use shell::say_part;
 
 // One byte more than the longest recording, 6 + 6 × 10,000 bytes: with that many it is refused, whatever follows.
 const RECORDING_ROOM: usize = 60007;
@@ -42,25 +45,47 @@ fn say_below(columns: Columns, card: &[u8], h: usize) {
     let n = io::read_full(0, &mut space);
     let mut text = text_room();
     let end = print_ride(columns, card, &space[..n], &mut text);
-    if h <= end {
-        say(&text[h..end]);
+    say_part(&text, h, end);
+}
+
+// A card below the heading: whether it was read, how many bytes of it stand at the start of the buffer, and how many the
+// heading has.
+pub struct Below {
+    pub is_read: bool,
+    pub length: usize,
+    pub heading: usize,
+}
+
+// Says the heading, then reads the card's file, which the first argument names. Of it more than the longest record is read,
+// where the buffer has room. None is read where the heading could not be written.
+pub fn card_below(columns: Columns, buf: &mut [u8]) -> Below
+    ensures { λ r. ⌜ Counts (r .length) (now (buf .exit)) ⌝ }
+{
+    let h = say_heading(columns);
+    if h == 0 {
+        return Below {
+            is_read: false,
+            length: 0,
+            heading: 0,
+        };
+    }
+    let card = shell::named_file(buf);
+    Below {
+        is_read: card.is_read,
+        length: card.length,
+        heading: h,
     }
 }
 
-// The whole program: its one argument is the card's file, of which more than the longest record is read. Any other number
-// of arguments is answered with the usage.
+// The whole program: its one argument is the card's file. Any other number of arguments is answered with the usage.
 pub fn main_with(columns: Columns, usage: &[u8]) {
     if !shell::has_argument(usage) {
         return;
     }
-    let h = say_heading(columns);
-    if h == 0 {
-        return;
-    }
     let mut space = io::buffer();
-    let card = shell::named_file(&mut space);
+    let card = card_below(columns, &mut space);
     let n = card.length;
     if card.is_read {
-        say_below(columns, &space[..n], h);
+        say_below(columns, &space[..n], card.heading);
     }
 }

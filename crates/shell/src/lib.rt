@@ -1,5 +1,5 @@
-// What the programs share: writing what stands in a buffer, the file that a program's argument names, lines of standard
-// input.
+// What the programs share: writing what stands in a buffer, the file that a program's argument names, standard input as it
+// comes, and its lines.
 //
 // No public function has a `requires`. What is read and whether it is written is the system's, and no contract can say it;
 // a count of bytes read lies within the buffer that was lent for them. What is said of the arguments, of a file that cannot
@@ -38,7 +38,18 @@ pub fn say_first(buffer: &[u8], n: usize) -> bool {
     say(buffer)
 }
 
-fn warn(text: &[u8]) {
+// The same of a buffer's bytes from one place up to another; of nothing where it has no such bytes.
+pub fn say_part(buffer: &[u8], from: usize, to: usize) -> bool {
+    if from <= to {
+        if to <= buffer.len() {
+            return say(&buffer[from..to]);
+        }
+    }
+    true
+}
+
+// Writes a text to standard error.
+pub fn warn(text: &[u8]) {
     io::write_all(libc::STDERR_FILENO, text);
 }
 
@@ -135,6 +146,7 @@ fn read_file(fd: i32, buf: &mut [u8]) -> File
 
 fn read_some(fd: i32, part: &mut [u8]) -> File
     ensures { λ r. ⌜ Counts (r .length) (now (part .exit)) ⌝ }
+    ensures { λ r. ⌜ r .length ≤ length (now (part .entry)) ⌝ }
 {
     let got = libc::read(fd, part);
     if got < 0 {
@@ -144,6 +156,31 @@ fn read_some(fd: i32, part: &mut [u8]) -> File
         is_read: true,
         length: io::count(got, part),
     }
+}
+
+// ---- standard input as it comes
+
+// One read of standard input, of at most so many bytes: what is there, be it less; nothing at its end. Where it cannot be
+// read that is written, and none is read.
+pub fn read_piece(most: usize, buf: &mut [u8]) -> File
+    ensures { λ r. ⌜ Counts (r .length) (now (buf .exit)) ⌝ }
+    ensures { λ r. ⌜ r .length ≤ most ⌝ }
+{
+    let piece = read_most(most, buf);
+    if !piece.is_read {
+        warn(b"cannot read standard input\n");
+    }
+    piece
+}
+
+fn read_most(most: usize, buf: &mut [u8]) -> File
+    ensures { λ r. ⌜ Counts (r .length) (now (buf .exit)) ⌝ }
+    ensures { λ r. ⌜ r .length ≤ most ⌝ }
+{
+    if most < buf.len() {
+        return read_some(libc::STDIN_FILENO, &mut buf[..most]);
+    }
+    read_some(libc::STDIN_FILENO, buf)
 }
 
 // ---- lines of standard input
