@@ -1,7 +1,9 @@
-//! Cases of cards and tones, a line each, in the notation of crates/cases: what each is answered with.
+//! Cases of cards, tones and recordings in pieces, a line each, in the notation of tests/compare/README.md: what each is
+//! answered with.
 
 use crate::card::{self, big_endian};
 use crate::cards::unhex;
+use crate::pieces;
 use crate::tone::{self, Tone};
 use std::io::{self, Write};
 
@@ -15,6 +17,8 @@ pub fn answer(text: &str, out: &mut impl Write) -> io::Result<()> {
             "read" => writeln!(out, "{line}: {}", read(&area, &unhex(digits)))?,
             "write" => writeln!(out, "{line}: {}", write(&area, &unhex(digits)))?,
             "tone" => writeln!(out, "{line}: {}", classify(&area, &unhex(digits)))?,
+            "pieces" => write!(out, "{line}\n{}", pieces::answer_pieces(digits))?,
+            "cuts" => write!(out, "{line}\n{}", pieces::answer_cuts(digits))?,
             _ => writeln!(out, "{line}")?,
         }
     }

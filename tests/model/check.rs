@@ -1,20 +1,21 @@
-//! The model's own checks: the paper's ride, "Both sides of each line", tones and cards. tests/compare/run has it print the
-//! lessons and the readings too.
+//! The model's own checks: the paper's ride, "Both sides of each line", tones and cards; those of the receiver are in
+//! receive_check.rs. tests/compare/run has it print the lessons and the readings too.
 
 use crate::card::{self, refused, refused_at, Row, Settings};
 use crate::cards::{unhex, CARD_A, CARD_P, CARD_R, CARD_R2, CARD_RL};
 use crate::desk::{Answer, Main, Sample, Session};
+use crate::receive_check;
 use crate::ride::print;
 use crate::tone::{classify, sheet, Tone};
 use std::io::{self, Write};
 
-struct Checks {
+pub struct Checks {
     passed: u32,
     failed: Vec<String>,
 }
 
 impl Checks {
-    fn equal<T: PartialEq + std::fmt::Debug>(&mut self, name: &str, got: T, wanted: T) {
+    pub fn equal<T: PartialEq + std::fmt::Debug>(&mut self, name: &str, got: T, wanted: T) {
         if got == wanted {
             self.passed += 1;
         } else {
@@ -35,6 +36,7 @@ pub fn all(out: &mut impl Write) -> io::Result<usize> {
     writer(&mut checks);
     readings(&mut checks);
     tones(&mut checks);
+    receive_check::all(&mut checks);
     for line in &checks.failed {
         writeln!(out, "failed: {line}")?;
     }

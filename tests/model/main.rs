@@ -1,4 +1,5 @@
-//! A model of document 01, written from its sentences and readings alone, to compare other programs with. See tests/compare.
+//! A model of document 01, and of what document 02 adds, written from their sentences and readings alone, to compare other programs
+//! with. See tests/compare.
 
 mod answer;
 mod card;
@@ -9,7 +10,11 @@ mod controls;
 mod damage;
 mod desk;
 mod kinds;
+mod line;
 mod make;
+mod pieces;
+mod receive;
+mod receive_check;
 mod ride;
 mod steer;
 mod tone;
@@ -19,10 +24,13 @@ use std::io::{self, Read, Write};
 
 const USAGE: &str = "model run CARD < RECORDING
 model ride CARD < RECORDING
+model receive CARD LENGTH[,LENGTH..] < LINE
 model cover CARD < RECORDING
+model cover-pieces < BATCH
 model answer < BATCH
-model make cards|settings|tones SEED SIZE > BATCH
+model make cards|settings|tones|pieces SEED SIZE > BATCH
 model make-ride random|answers|drive|long|damaged SEED SAMPLES CARDFILE RECFILE
+model make-line SEED CARDFILE LINEFILE
 model self";
 
 fn main() -> io::Result<()> {
@@ -32,9 +40,21 @@ fn main() -> io::Result<()> {
     match words[..] {
         ["run", file] => ride::print(&std::fs::read(file)?, &input()?, true, &mut out)?,
         ["ride", file] => ride::print(&std::fs::read(file)?, &input()?, false, &mut out)?,
+        ["receive", file, lengths] => {
+            let lengths: Vec<usize> = lengths.split(',').map(|length| number(length) as usize).collect();
+            if lengths.last() == Some(&0) {
+                usage(); // it goes on to the end of the line
+            }
+            pieces::print(&std::fs::read(file)?, &input()?, &lengths, &mut out)?
+        }
         ["cover", file] => {
             for (key, count) in ride::cover(&std::fs::read(file)?, &input()?) {
                 writeln!(out, "{key} {count}")?;
+            }
+        }
+        ["cover-pieces"] => {
+            for (row, count) in pieces::cover(&io::read_to_string(io::stdin())?) {
+                writeln!(out, "{count} {row}")?;
             }
         }
         ["answer"] => cases::answer(&io::read_to_string(io::stdin())?, &mut out)?,
@@ -46,6 +66,11 @@ fn main() -> io::Result<()> {
             let Some((card, recording)) = steer::make_ride(kind, number(seed), number(samples)) else { usage() };
             std::fs::write(card_file, card)?;
             std::fs::write(recording_file, recording)?;
+        }
+        ["make-line", seed, card_file, line_file] => {
+            let (card, line) = line::make_line(number(seed));
+            std::fs::write(card_file, card)?;
+            std::fs::write(line_file, line)?;
         }
         ["self"] => {
             let failed = check::all(&mut out)?;

@@ -1,9 +1,10 @@
-//! Batches of cases by seed: cards to read, settings to write, sheets with tones.
+//! Batches of cases by seed: cards to read, settings to write, sheets with tones; recordings in pieces are line.rs's.
 
 use crate::card::{self, Row, Settings};
 use crate::cards::{unhex, CARD_A, CARD_P, CARD_R, CARD_R2, CARD_RL};
 use crate::cases::hex;
 use crate::check::SHEET;
+use crate::line;
 
 /// Splitmix64: the same seed gives the same numbers everywhere.
 pub struct Rng(u64);
@@ -46,6 +47,7 @@ pub fn batch(kind: &str, seed: u64, size: u64) -> Option<String> {
         "cards" => card_case,
         "settings" => settings_case,
         "tones" => tone_case,
+        "pieces" => return Some(line::batch(seed, size)),
         _ => return None,
     };
     Some((0..size).map(|_| case(&mut rng)).collect())
