@@ -23,7 +23,7 @@ const DEFAULT_SIZE: u16 = 64;
 
 const NO_SIZE: u16 = 4097;
 
-// The lines of a piece of 4,096 bytes: at most 66 bytes for each six begun and 66 for a refusal's.
+// The lines of a piece of 4,096 bytes: at most 66 bytes for each six begun and 66 for a refusal's (proofs/Room.antt).
 const TEXT_ROOM: usize = 45144;
 
 // ---- SIZE
