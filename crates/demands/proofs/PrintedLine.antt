@@ -43,7 +43,7 @@ module _ (columns : Columns) (a b : List ℕ) (s t : Settings) (read-a : readCar
   unfolding linePrinted startText startOn
   versions-print m pieces = rw (read-a, read-b, settings-same a b highest highest s t read-a read-b m)
 
-  pub functions-print : Same a b 3 39 → (pieces : List (List ℕ)) → NoneSpeaks s t (flatten pieces) → linePrinted columns a pieces ≡ linePrinted columns b pieces
+  pub functions-print : Same a b 3 39 → (pieces : List (List ℕ)) → NoneSpeaks t (freshReceiver s) (flatten pieces) → linePrinted columns a pieces ≡ linePrinted columns b pieces
   functions-print same pieces none =
       let one = settings-alike a b highest highest s t read-a read-b same in
       let in-a = its-range a highest s read-a in

@@ -30,7 +30,9 @@ use Rattle.session.specs.Session.{openingVersion, openSession, sampleOf, outcom
 use Rattle.session.specs.Runs.{after, outcomes, allAccepted}
 use Rattle.rides.specs.Recording.{goodRecording, samplesIn, trainOf, placeOf, firstSamples, samplesOf}
 use Rattle.rides.specs.Ride.{freshRide, numberOf, shownOf, runOf, wholeRide}
-use Rattle.receiver.specs.Receiver.{freshReceiver, startReceiver, quietly, refusedWith, takeOf, endOf, receivedAll, shownAll, receivedPieces, shownPieces, betweenSamples}
+use Rattle.rides.specs.declared.ride.Shown.{Shown}
+use Rattle.rides.specs.declared.ride.Shown.the-variants as shown
+use Rattle.receiver.specs.Receiver.{freshReceiver, startReceiver, quietly, refusedWith, placeIn, partWith, takeOf, endOf, receivedAll, shownAll, receivedPieces, shownPieces, betweenSamples}
 use Rattle.receiver.specs.declared.Receiver.{Receiver}
 use Rattle.receiver.specs.declared.Status.{Status}
 use Rattle.receiver.specs.declared.Status.the-variants.{Open, Ended, Refused}
@@ -40,7 +42,7 @@ use Rattle.printed.specs.Printed.{highest, printedRide}
 use Rattle.printed_pieces.specs.Pieces.{pieceText, piecesText, linePrinted}
 use Rattle.demands.specs.Demand1.{Exactly, refusalBy}
 use Rattle.demands.specs.Demand3.{SameSpeaking, SameWithout}
-use Rattle.demands.specs.Speaks.{untilSpeaks}
+use Rattle.demands.specs.Speaks.{differingSpeaks}
 
 -- ---- a line: the settings that its receiver was started on, and the bytes that have come
 
@@ -209,10 +211,17 @@ lineFrom (refusedAt n place) pieces = refusedAt n place
 abbrev pub lineOf : List ℕ → ℕ → List (List ℕ) → Answer Line
 lineOf area highest pieces = lineFrom (readCard area highest) pieces
 
--- no complete sample of these bytes is one at which a function that differs speaks (what follows a refusal adds nothing, by statement 5: there it
--- is said of the bytes up to the fault)
-abbrev pub NoneSpeaks : Settings → Settings → List ℕ → Type 0
-NoneSpeaks s t bytes = untilSpeaks s t (trainOf bytes) (samplesOf bytes) ≡ samplesIn bytes
+-- "the first accepted sample at which a differing function speaks" has not come: a byte that brings an answer completes an accepted sample, the
+-- part that is held with this byte; at none of these does a function that differs from settings t speak
+abbrev pub Answers : Shown → Type 0
+Answers (shown.Answered a) = Unit
+Answers (shown.Refused n) = ⊥
+Answers shown.Nothing = ⊥
+
+abbrev pub NoneSpeaks : Settings → Receiver → List ℕ → Type 0
+NoneSpeaks t r [] = Unit
+NoneSpeaks t r (b ∷ rest) =
+    (Answers (takeOf r b .shown) → differingSpeaks (r .session) t (partWith (r .part) (placeIn r) b) ≡ false) × NoneSpeaks t (takeOf r b .receiver) rest
 
 -- ---- the statements
 
@@ -251,20 +260,20 @@ pub record Pieces : Type 0 where
   pub ends : (settings : Settings) (bytes : List ℕ) → Exactly (atEnd settings bytes) (EndAs settings bytes)
   pub ended-for-good : (r : Receiver) → r .status ≡ Ended
       → (receivedAll r [] ≡ r) × (shownAll r [] ≡ []) × (endOf r ≡ quietly r) × ((b : ℕ) → takeOf r b ≡ refusedWith 14 r)
-  -- 6. Demand 3 of what a receiver shows, for every cutting. 3a, 3b; 3c: as long as no function that differs has spoken, so that all is alike up
-  -- to the last byte before the sample at which one speaks is complete.
+  -- 6. Demand 3 of what a receiver shows, for every cutting. 3a, 3b; 3c: as long as no function that differs has spoken at an accepted sample,
+  -- so that all is alike up to the last byte before the sample at which one speaks is complete.
   pub silent-bytes : (a b : List ℕ) (h : ℕ) → SameSpeaking a b → (pieces : List (List ℕ)) → lineOf b h pieces ≡ lineOf a h pieces
   pub versions-silent : (a b : List ℕ) (h g : ℕ) (s t : Settings) → readCard a h ≡ given s → readCard b g ≡ given t → SameWithout a b
       → (pieces : List (List ℕ)) → lineOf a h pieces ≡ lineOf b g pieces
   pub functions-silent : (a b : List ℕ) (h g : ℕ) (s t : Settings) → readCard a h ≡ given s → readCard b g ≡ given t → Same a b 3 39
-      → (pieces : List (List ℕ)) → NoneSpeaks s t (flatten pieces) → lineOf a h pieces ≡ lineOf b g pieces
+      → (pieces : List (List ℕ)) → NoneSpeaks t (freshReceiver s) (flatten pieces) → lineOf a h pieces ≡ lineOf b g pieces
   -- and the same of the line as it is printed
   pub silent-print : (columns : Columns) (a b : List ℕ) → SameSpeaking a b
       → (pieces : List (List ℕ)) → linePrinted columns a pieces ≡ linePrinted columns b pieces
   pub versions-print : (columns : Columns) (a b : List ℕ) (s t : Settings) → readCard a highest ≡ given s → readCard b highest ≡ given t → SameWithout a b
       → (pieces : List (List ℕ)) → linePrinted columns a pieces ≡ linePrinted columns b pieces
   pub functions-print : (columns : Columns) (a b : List ℕ) (s t : Settings) → readCard a highest ≡ given s → readCard b highest ≡ given t → Same a b 3 39
-      → (pieces : List (List ℕ)) → NoneSpeaks s t (flatten pieces) → linePrinted columns a pieces ≡ linePrinted columns b pieces
+      → (pieces : List (List ℕ)) → NoneSpeaks t (freshReceiver s) (flatten pieces) → linePrinted columns a pieces ≡ linePrinted columns b pieces
   -- 7. A receiver is session, stated length, bytes taken, unfinished sample and status, and nothing else: two that agree on these are one, and so
   -- answer alike for ever.
   pub no-more : (r q : Receiver) → r .session ≡ q .session → r .stated ≡ q .stated → r .taken ≡ q .taken → r .part ≡ q .part
