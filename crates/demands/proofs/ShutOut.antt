@@ -42,7 +42,7 @@ abbrev before-red : Sample
 before-red = conv 300 7 0
 
 abbrev told : List Outcome
-told = shows 10000 0 0 ∷ shows 8000 16 5 ∷ shows 8000 1040 5 ∷ []
+told = shows 10000 0 0 ∷ shows 8000 16 5 ∷ shows 8000 16 5 ∷ []
 
 rides : document01 cardA 6 (standing ∷ before-red ∷ standing ∷ []) ≡ given told
 unfolding definitions

@@ -76,7 +76,7 @@ pub data SampledAs (s : Session) (x : Sample) : Sampled → Type 0 where
   refused-9 : Inside s → (CodesMet x → ⊥) → SampledAs s x (refusalBy 9 s)
   -- "pulses × tick length above 100,000"
   refused-10 : Inside s → CodesMet x → 100000 < x .pulses * s .settings .tick → SampledAs s x (refusalBy 10 s)
-  -- "mode changed in a sample with pulses"
+  -- "mode changed", 02 b: "while not at standstill"
   refused-11 : Inside s → CodesMet x → x .pulses * s .settings .tick ≤ 100000 → (ModeMet s x → ⊥) → SampledAs s x (refusalBy 11 s)
   answered : Inside s → CodesMet x → x .pulses * s .settings .tick ≤ 100000 → ModeMet s x → SampledAs s x (ranOf s x)
 

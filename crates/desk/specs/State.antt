@@ -21,7 +21,7 @@ use Rattle.sides.specs.Limit.{limitSet}
 use Rattle.desk.specs.declared.brake.Brake.{Brake}
 use Rattle.desk.specs.declared.beside.Beside.{Beside}
 use Rattle.desk.specs.declared.state.Desk.{Desk}
-use Rattle.desk.specs.Brake.{noBrake, brakeWithCause}
+use Rattle.desk.specs.Brake.{openingBrake}
 use Rattle.desk.specs.Beside.{nothingBeside, besideWithAlongside, besideWithCrossing, besideWithLimit}
 
 -- ---- a desk with one member changed
@@ -58,9 +58,6 @@ withBeside beside d = record { bts = d .bts; code = d .code; brake = d .brake; m
 
 -- ---- a desk with one member of a part changed
 
-abbrev pub withCause : ℕ → Desk → Desk
-withCause cause d = withBrake (brakeWithCause cause (d .brake)) d
-
 abbrev pub withAlongside : Alongside → Desk → Desk
 withAlongside alongside d = withBeside (besideWithAlongside alongside (d .beside)) d
 
@@ -89,13 +86,13 @@ limitNow age d = withLimit (limitSet age (d .beside .limit)) d
 
 -- ---- opening, and the mode
 
--- "It opens in CONV with the start row as main (age 1 in the first sample), last code 0."
+-- "It opens in CONV with the start row as main (age 1 in the first sample), last code 0."; 02 b: "a newly opened session counts as standing"
 abbrev pub freshDesk : Desk
 freshDesk =
     record {
       bts = false;
       code = 0;
-      brake = noBrake;
+      brake = openingBrake;
       main = mainOf Start 0 0;
       window = closed;
       side = closed;
@@ -110,6 +107,7 @@ abbrev pub restingOf : Bool → Main
 restingOf true = mainOf Clear 0 0
 restingOf false = mainOf Start 0 0
 
--- "BTS: entering drops all controls, windows and armed override; leaving drops them and sets start." The last code and the brake stay.
+-- "BTS: entering drops all controls, windows and armed override; leaving drops them and sets start." The last code and the brake stay;
+-- 02: "a mode change leaves the count alone" (b4).
 unfoldable pub modeChanged : Bool → Desk → Desk
 modeChanged bts d = withMain (restingOf bts) (withBrake (d .brake) (withCode (d .code) (withBts bts freshDesk)))

@@ -12,7 +12,7 @@ use signals::stop::Phase;
 use signals::stop::Reminder;
 use signals::window::Window;
 ghost use mathlib.Core.Path.{_≡_};
-ghost use Rattle.desk.specs.State.{withBts, withCode, withBrake, withMain, withWindow, withSide, withArmed, withReminder, withOption, withBeside, withCause, withAlongside, withCrossing, withLimit, takenOver, crossingSet, limitNow, freshDesk, restingOf, modeChanged};
+ghost use Rattle.desk.specs.State.{withBts, withCode, withBrake, withMain, withWindow, withSide, withArmed, withReminder, withOption, withBeside, withAlongside, withCrossing, withLimit, takenOver, crossingSet, limitNow, freshDesk, restingOf, modeChanged};
 
 // `bts` is the mode, `code` the last code, `window` the main window.
 pub struct Desk {
@@ -99,13 +99,6 @@ impl Desk {
         self
     }
 
-    pub fn with_cause(self, cause: u8) -> Desk
-        ensures { λ r. ⌜ r ≡ withCause cause self ⌝ }
-    {
-        let brake = self.brake;
-        self.with_brake(brake.with_cause(cause))
-    }
-
     pub fn with_alongside(self, alongside: Alongside) -> Desk
         ensures { λ r. ⌜ r ≡ withAlongside alongside self ⌝ }
     {
@@ -154,14 +147,14 @@ impl Desk {
         self.with_limit(limit.set(age))
     }
 
-    // A desk as it opens: in CONV with the start row as main, last code 0, no brake.
+    // A desk as it opens: in CONV with the start row as main, last code 0, no brake, at standstill.
     pub fn fresh() -> Desk
         ensures { λ r. ⌜ r ≡ freshDesk ⌝ }
     {
         Desk {
             bts: false,
             code: 0,
-            brake: Brake::off(),
+            brake: Brake::opening(),
             main: Main::new(MainKind::Start, 0, 0),
             window: Window::closed(),
             side: Window::closed(),
@@ -172,7 +165,8 @@ impl Desk {
         }
     }
 
-    // The mode changes: entering BTS drops all, leaving drops all and sets start. Last code and brake stay.
+    // The mode changes: entering BTS drops all, leaving drops all and sets start. Last code and brake stay, and for how long the desk has
+    // stood.
     pub fn change_mode(self, bts: bool) -> Desk
         ensures { λ r. ⌜ r ≡ modeChanged bts self ⌝ }
     {

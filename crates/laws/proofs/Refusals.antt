@@ -11,12 +11,16 @@ use Rattle.leaf.specs.Choosing.{pick, and-split}
 use Rattle.leaf.specs.Numbers.{codeTop, buttonsTop}
 use Rattle.leaf.specs.Checks.{firstBad, orFault, FirstFault, first-fault}
 use Rattle.leaf.specs.declared.Refusal.the-variants.{Number}
+use Rattle.desk.specs.declared.brake.Brake.{Brake}
+use Rattle.desk.specs.Brake.{standstill}
 use Rattle.desk.specs.Clock.{sameMode}
 use Rattle.session.specs.declared.Sample.{Sample}
 use Rattle.session.specs.declared.Session.{Session}
 use Rattle.session.specs.declared.Outcome.the-variants.{Refused}
-use Rattle.session.specs.Session.{insideOf, standstill, inBts, sampleChecks, refusedBy, ranOf, sampleOf}
+use Rattle.session.specs.Session.{insideOf, inBts, sampleChecks, refusedBy, ranOf, sampleOf}
+use Rattle.step_laws.specs.Brake.{AtStandstill}
 use Rattle.step_laws.proofs.Choosing.{not-so}
+use Rattle.step_laws.proofs.Brake.{standstill-as}
 use Rattle.laws.specs.Ranges.{Inside}
 use Rattle.laws.specs.Refusals.{CodesMet, ModeMet, Accepted, RefusalLaws}
 use Rattle.laws.proofs.Ranges.{inside-only, inside-when}
@@ -52,25 +56,26 @@ codes-when : (x : Sample) → CodesMet x → codesTest x ≡ true
 codes-when x m =
     rw (le-leb (x .beacon) codeTop (m .beacon-high), le-leb (x .buttons) buttonsTop (m .buttons-high), le-leb 1 (x .mode) (m .mode-low), le-leb (x .mode) 2 (m .mode-high))
 
-abbrev modeTest : Bool → ℕ → ℕ → Bool
-modeTest bts pulses mode = sameMode bts (inBts mode) || standstill pulses
+abbrev modeTest : Bool → ℕ → Brake → ℕ → Bool
+modeTest bts pulses brake mode = sameMode bts (inBts mode) || standstill pulses brake
 
-mode-only : (bts : Bool) (pulses mode : ℕ) → 1 ≤ mode → mode ≤ 2 → modeTest bts pulses mode ≡ true → (mode ≡ pick bts 2 1) ⊎ (pulses ≡ 0)
-mode-only bts pulses mode low high h = cases bts (eqb mode 2) refl h
+mode-only : (bts : Bool) (pulses : ℕ) (brake : Brake) (mode : ℕ) → 1 ≤ mode → mode ≤ 2 → modeTest bts pulses brake mode ≡ true
+    → (mode ≡ pick bts 2 1) ⊎ AtStandstill pulses brake
+mode-only bts pulses brake mode low high h = cases bts (eqb mode 2) refl h
   where
-    cases : (b t : Bool) → eqb mode 2 ≡ t → (sameMode b t || eqb pulses 0) ≡ true → (mode ≡ pick b 2 1) ⊎ (pulses ≡ 0)
+    cases : (b t : Bool) → eqb mode 2 ≡ t → (sameMode b t || standstill pulses brake) ≡ true → (mode ≡ pick b 2 1) ⊎ AtStandstill pulses brake
     cases true true e h = inl (eqb-true mode 2 e)
-    cases true false e h = inr (eqb-true pulses 0 h)
-    cases false true e h = inr (eqb-true pulses 0 h)
+    cases true false e h = inr (standstill-as pulses brake .0 h)
+    cases false true e h = inr (standstill-as pulses brake .0 h)
     cases false false e h = let n = eqb-false mode 2 e in inl (omega arith)
 
-mode-when : (bts : Bool) (pulses mode : ℕ) → (mode ≡ pick bts 2 1) ⊎ (pulses ≡ 0) → modeTest bts pulses mode ≡ true
-mode-when bts pulses mode (inl e) = cases bts e
+mode-when : (bts : Bool) (pulses : ℕ) (brake : Brake) (mode : ℕ) → (mode ≡ pick bts 2 1) ⊎ AtStandstill pulses brake → modeTest bts pulses brake mode ≡ true
+mode-when bts pulses brake mode (inl e) = cases bts e
   where
-    cases : (b : Bool) → mode ≡ pick b 2 1 → modeTest b pulses mode ≡ true
+    cases : (b : Bool) → mode ≡ pick b 2 1 → modeTest b pulses brake mode ≡ true
     cases true e = rw e
     cases false e = rw e
-mode-when bts pulses mode (inr e) = rw e (cases (sameMode bts (inBts mode)))
+mode-when bts pulses brake mode (inr e) = rw (standstill-as pulses brake .1 e) (cases (sameMode bts (inBts mode)))
   where
     cases : (b : Bool) → (b || true) ≡ true
     cases true = refl
@@ -136,7 +141,7 @@ module _ (s : Session) (x : Sample) where
   c = leb (x .pulses * s .settings .tick) 100000
 
   abbrev e : Bool
-  e = modeTest (s .desk .bts) (x .pulses) (x .mode)
+  e = modeTest (s .desk .bts) (x .pulses) (s .desk .brake) (x .mode)
 
   by-tests : refusedBy s x ≡ verdict a b c e
   unfolding refusedBy
@@ -153,13 +158,13 @@ module _ (s : Session) (x : Sample) where
             inside = inside-only s (t .0);
             codes = codes;
             slow = leb-true _ _ (t .1 .1 .0);
-            kept = mode-only (s .desk .bts) (x .pulses) (x .mode) (codes .mode-low) (codes .mode-high) (t .1 .1 .1);
+            kept = mode-only (s .desk .bts) (x .pulses) (s .desk .brake) (x .mode) (codes .mode-low) (codes .mode-high) (t .1 .1 .1);
           }
 
       when : Accepted s x → refusedBy s x ≡ 0
       when m =
           by-tests
-          ∙ rw (inside-when s (m .inside), codes-when x (m .codes), le-leb _ _ (m .slow), mode-when (s .desk .bts) (x .pulses) (x .mode) (m .kept))
+          ∙ rw (inside-when s (m .inside), codes-when x (m .codes), le-leb _ _ (m .slow), mode-when (s .desk .bts) (x .pulses) (s .desk .brake) (x .mode) (m .kept))
 
   refused-8 : (refusedBy s x ≡ 8) ↔ (Inside s → ⊥)
   refused-8 = (λ h. outside-only s (is-8 a b c e (sym by-tests ∙ h)), λ m. by-tests ∙ rw (outside-when s m))
@@ -194,7 +199,7 @@ module _ (s : Session) (x : Sample) where
           → Inside s × (CodesMet x × ((x .pulses * s .settings .tick ≤ 100000) × (ModeMet s x → ⊥)))
       only h =
           let t = is-11 a b c e (sym by-tests ∙ h) in
-          (inside-only s (t .0), (codes-only x (t .1 .0), (leb-true _ _ (t .1 .1 .0), λ m. apart e (mode-when (s .desk .bts) (x .pulses) (x .mode) m) (t .1 .1 .1))))
+          (inside-only s (t .0), (codes-only x (t .1 .0), (leb-true _ _ (t .1 .1 .0), λ m. apart e (mode-when (s .desk .bts) (x .pulses) (s .desk .brake) (x .mode) m) (t .1 .1 .1))))
 
       when : Inside s × (CodesMet x × ((x .pulses * s .settings .tick ≤ 100000) × (ModeMet s x → ⊥)))
           → refusedBy s x ≡ 11
@@ -205,7 +210,7 @@ module _ (s : Session) (x : Sample) where
             inside-when s (m .0),
             codes-when x codes,
             le-leb _ _ (m .1 .1 .0),
-            not-so e (λ q. m .1 .1 .1 (mode-only (s .desk .bts) (x .pulses) (x .mode) (codes .mode-low) (codes .mode-high) q)),
+            not-so e (λ q. m .1 .1 .1 (mode-only (s .desk .bts) (x .pulses) (s .desk .brake) (x .mode) (codes .mode-low) (codes .mode-high) q)),
           )
 
   first-refused : (n : ℕ) → refusedBy s x ≡ n → (n ≡ 0 → ⊥) → FirstFault n (sampleChecks s x)

@@ -11,6 +11,7 @@ use Rattle.session.specs.declared.Sample.{Sample}
 use Rattle.session.specs.declared.Session.{Session}
 use Rattle.session.specs.declared.Outcome.the-variants.{Refused}
 use Rattle.session.specs.Session.{sampleChecks, refusedBy, ranOf, sampleOf}
+use Rattle.step_laws.specs.Brake.{AtStandstill}
 use Rattle.laws.specs.Ranges.{Inside}
 
 -- ---- the facts
@@ -26,9 +27,9 @@ pub record CodesMet (x : Sample) : Type 0 where
 abbrev pub modeOf : Session → ℕ
 modeOf s = pick (s .desk .bts) 2 1
 
--- "mode changed in a sample with pulses" is not so
+-- 02 b: "mode changed" "while not at standstill" is not so
 abbrev pub ModeMet : Session → Sample → Type 0
-ModeMet s x = (x .mode ≡ modeOf s) ⊎ (x .pulses ≡ 0)
+ModeMet s x = (x .mode ≡ modeOf s) ⊎ AtStandstill (x .pulses) (s .desk .brake)
 
 -- a sample that is accepted
 pub record Accepted (s : Session) (x : Sample) : Type 0 where
@@ -48,7 +49,7 @@ pub record RefusalLaws (s : Session) (x : Sample) : Type 0 where
   pub refused-9 : (refusedBy s x ≡ 9) ↔ (Inside s × (CodesMet x → ⊥))
   -- "10 | pulses × tick length above 100,000": and nothing before it
   pub refused-10 : (refusedBy s x ≡ 10) ↔ (Inside s × (CodesMet x × (100000 < x .pulses * s .settings .tick)))
-  -- "11 | mode changed in a sample with pulses": and nothing before it
+  -- "11 | mode changed", 02 b: "while not at standstill": and nothing before it
   pub refused-11 : (refusedBy s x ≡ 11) ↔ (Inside s × (CodesMet x × ((x .pulses * s .settings .tick ≤ 100000) × (ModeMet s x → ⊥))))
   -- "sample 8, 9, 10, 11": a number that is given is that of a check of the list that fails, and every check before it holds
   pub first-refused : (n : ℕ) → refusedBy s x ≡ n → (n ≡ 0 → ⊥) → FirstFault n (sampleChecks s x)

@@ -11,6 +11,7 @@ use Rattle.leaf.specs.declared.Refusal.the-variants.{Number}
 use Rattle.card.specs.declared.Settings.{Settings}
 use Rattle.card.specs.Ranges.{checkSettings}
 use Rattle.desk.specs.declared.state.Desk.{Desk}
+use Rattle.desk.specs.Brake.{standstill}
 use Rattle.desk.specs.State.{freshDesk}
 use Rattle.desk.specs.Clock.{sameMode}
 use Rattle.desk.specs.Ranges.{deskInside}
@@ -29,7 +30,7 @@ use Rattle.session.specs.declared.Sampled.{Sampled}
 
 -- ---- a session
 
--- "It opens in CONV with the start row as main (age 1 in the first sample), last code 0."
+-- "It opens in CONV with the start row as main (age 1 in the first sample), last code 0."; 02 b: "a newly opened session counts as standing"
 abbrev pub freshSession : Settings → ℕ → Session
 freshSession settings train = record { settings = settings; train = train; desk = freshDesk }
 
@@ -72,22 +73,18 @@ insideOf s = settingsInside (s .settings) && typeAllowed (s .train) (s .settings
 
 -- ---- a sample: "sample 8, 9, 10, 11"
 
--- "Standstill is a sample without pulses."
-abbrev pub standstill : ℕ → Bool
-standstill pulses = eqb pulses 0
-
 -- "mode 1 CONV or 2 BTS"
 abbrev pub inBts : ℕ → Bool
 inBts mode = eqb mode 2
 
--- 8 "session out of its ranges", 9 "beacon, buttons or mode out of range", 10 "pulses × tick length above 100,000", 11 "mode changed in a
--- sample with pulses"
+-- 8 "session out of its ranges", 9 "beacon, buttons or mode out of range", 10 "pulses × tick length above 100,000", 11 "mode changed", where
+-- document 01's "in a sample with pulses" gives way to 02 b: "11 now reads "while not at standstill""
 abbrev pub sampleChecks : Session → Sample → List Check
 sampleChecks s x =
     (8, insideOf s)
     ∷ (9, leb (x .beacon) codeTop && leb (x .buttons) buttonsTop && leb 1 (x .mode) && leb (x .mode) 2)
     ∷ (10, leb (x .pulses * s .settings .tick) 100000)
-    ∷ (11, sameMode (s .desk .bts) (inBts (x .mode)) || standstill (x .pulses))
+    ∷ (11, sameMode (s .desk .bts) (inBts (x .mode)) || standstill (x .pulses) (s .desk .brake))
     ∷ []
 
 -- the number of the refusal, 0 where the sample is accepted
@@ -99,7 +96,7 @@ abbrev pub carried : Session → Sample → Input
 carried s x =
     record {
       m = x .pulses * s .settings .tick;
-      still = standstill (x .pulses);
+      pulses = x .pulses;
       beacon = x .beacon;
       buttons = x .buttons;
       bts = inBts (x .mode);

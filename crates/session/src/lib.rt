@@ -18,7 +18,7 @@ use step::step;
 ghost use mathlib.Core.Path.{_≡_};
 ghost use Prim.Native.Nat.{_*_};
 ghost use Rattle.session.specs.Types.{typeSpeed, typeAllowed};
-ghost use Rattle.session.specs.Session.{freshSession, openedOf, openSession, insideOf, standstill, refusedBy, carried, stepped, sampledAs, sampleOf, outcomeOf, answerTo};
+ghost use Rattle.session.specs.Session.{freshSession, openedOf, openSession, insideOf, refusedBy, carried, stepped, sampledAs, sampleOf, outcomeOf, answerTo};
 
 // Opening takes no version: settings are judged as beside this one.
 pub const OPENING_VERSION: u8 = 2;
@@ -79,13 +79,6 @@ pub fn type_allowed(train: u8, vmax: u8) -> bool
     (1 <= train) & (train <= 8) & (type_speed(train) <= vmax)
 }
 
-// Standstill is a sample without pulses.
-fn is_standing(pulses: u16) -> bool
-    ensures { λ r. ⌜ r ≡ standstill pulses ⌝ }
-{
-    pulses == 0
-}
-
 impl Session {
     // A fresh session: in CONV, with the start row as main.
     fn fresh(settings: Settings, train: u8) -> Session
@@ -135,6 +128,7 @@ impl Session {
         let desk = self.desk;
         let inside = self.is_inside();
         let m = leaf::travel(x.pulses, settings.tick);
+        let brake = desk.brake;
         let bts = x.mode == 2;
         let same = (desk.bts & bts) | (!desk.bts & !bts);
         let fields = (x.beacon <= CODE_TOP)
@@ -144,7 +138,7 @@ impl Session {
         let n = or_fault(0, 8, inside);
         let n = or_fault(n, 9, fields);
         let n = or_fault(n, 10, m <= 100000);
-        or_fault(n, 11, same | is_standing(x.pulses))
+        or_fault(n, 11, same | brake.at_standstill(x.pulses))
     }
 
     // What the desk takes of an accepted sample.
@@ -154,7 +148,7 @@ impl Session {
         let tick = self.settings.tick;
         Input {
             m: leaf::travel(x.pulses, tick),
-            still: is_standing(x.pulses),
+            pulses: x.pulses,
             beacon: x.beacon,
             buttons: x.buttons,
             bts: x.mode == 2,

@@ -9,7 +9,8 @@ use Rattle.signals.specs.Windows.{waitsFor}
 use Rattle.signals.specs.MainControl.{increaseLit}
 use Rattle.signals.specs.Stop.{isLit}
 use Rattle.desk.specs.declared.state.Desk.{Desk}
-use Rattle.desk.specs.State.{withCause}
+use Rattle.desk.specs.Brake.{brakeAfter}
+use Rattle.desk.specs.State.{withBrake}
 
 -- "lowest number within a sample"; cause 0 is none
 unfoldable pub lowest : ℕ → ℕ → ℕ
@@ -20,8 +21,9 @@ lowest a b = pick (eqb a 0) b (pick (eqb b 0) a (min a b))
 unfoldable pub standingCause : ℕ → ℕ → Bool → ℕ
 standingCause before arose rearm = pick (eqb arose 0) (pick rearm 0 before) (pick (eqb before 0) arose before)
 
-unfoldable pub braked : ℕ → Bool → Desk → Desk
-braked arose rearm d = withCause (standingCause (d .brake .cause) arose rearm) d
+-- the brake's step, which every accepted sample passes: the cause that stands after it, and 02 b's count with this sample
+unfoldable pub braked : ℕ → Bool → ℕ → Desk → Desk
+braked arose rearm pulses d = withBrake (brakeAfter (standingCause (d .brake .cause) arose rearm) pulses (d .brake)) d
 
 -- "Lamps, bits as buttons:"
 abbrev pub lampIf : Bool → ℕ → ℕ

@@ -14,6 +14,7 @@ use Rattle.desk.specs.declared.clock.Turn.{Turn}
 use Rattle.step.specs.declared.Input.{Input}
 use Rattle.step.specs.declared.Answer.{Answer}
 use Rattle.step.specs.declared.Stepped.{Stepped}
+use Rattle.desk.specs.Brake.{standstill}
 use Rattle.desk.specs.Clock.{begun}
 use Rattle.buttons.specs.Buttons.{pressesOf}
 use Rattle.beacons.specs.Beacons.{beaconTaken}
@@ -29,24 +30,26 @@ movedOf s top x d =
     record { desk = read .desk; cause = lowest (first .cause) (read .cause) }
 
 -- "The answer is S, lamps, cause (0 none), crossing icon (0, 1 protected, 2 unprotected), limit standing or not."
-unfoldable pub answerOf : Settings → ℕ → Input → ℕ → Desk → Answer
-answerOf s top x speed d =
+unfoldable pub answerOf : Settings → ℕ → ℕ → Bool → ℕ → Desk → Answer
+answerOf s top m still speed d =
     record {
       speed = speed;
-      lamps = lampsOf (removable (x .m) (s .limit .last) top (d .beside .limit)) (x .still) d;
+      lamps = lampsOf (removable m (s .limit .last) top (d .beside .limit)) still d;
       cause = d .brake .cause;
       icon = iconOf (d .beside .crossing);
       limit = d .beside .limit .on;
     }
 
--- "Over S + 500 is cause 5 (001 in BTS; house elsewhere)." Then the brake, and the answer as the desk is at the sample's end.
+-- "Over S + 500 is cause 5 (001 in BTS; house elsewhere)." Then the brake, and the answer as the desk is at the sample's end. 02 b: "Rearm, its
+-- lamp and the mode change all use it", standstill.
 unfoldable pub judgedOf : Settings → ℕ → Input → ℕ → Desk → Stepped
 judgedOf s top x cause d =
     let turned : Desk = crossingTurned (x .m) d in
     let speed : ℕ = supervisedOf s top turned in
     let arose : ℕ = lowest cause (pick (exceedsOf (x .m) (speed + 500)) 5 0) in
-    let after : Desk = braked arose (x .still && bitOf (x .buttons) rearmButton) turned in
-    record { desk = after; arose = arose; answer = answerOf s top x speed after }
+    let still : Bool = standstill (x .pulses) (turned .brake) in
+    let after : Desk = braked arose (still && bitOf (x .buttons) rearmButton) (x .pulses) turned in
+    record { desk = after; arose = arose; answer = answerOf s top (x .m) still speed after }
 
 unfoldable pub stepOf : Settings → ℕ → Input → Desk → Stepped
 stepOf s top x d = judgedOf s top x (movedOf s top x d .cause) (movedOf s top x d .desk)

@@ -26,11 +26,12 @@ fn lamp_if(lit: bool, weight: u16) -> u16
     leaf::choose16(lit, weight, 0)
 }
 
-// The brake's step: rearm says that a standstill sample carries it.
-pub fn put_brake(d: Desk, arose: u8, rearm: bool) -> Desk
-    ensures { λ r. ⌜ r ≡ braked arose rearm d ⌝ }
+// The brake's step: rearm says that a sample at standstill carries it.
+pub fn put_brake(d: Desk, arose: u8, rearm: bool, pulses: u16) -> Desk
+    ensures { λ r. ⌜ r ≡ braked arose rearm pulses d ⌝ }
 {
-    d.with_cause(standing_cause(d.brake.cause, arose, rearm))
+    let brake = d.brake;
+    d.with_brake(brake.after(standing_cause(brake.cause, arose, rearm), pulses))
 }
 
 // What the windows and beacon 3's option wait for.

@@ -20,10 +20,10 @@ use speed::turn_crossing;
 ghost use mathlib.Core.Path.{_≡_};
 ghost use Rattle.step.specs.Step.{movedOf, judgedOf, answerOf, stepOf};
 
-// What the desk takes of an accepted sample: speed and travel, standstill, beacon code, buttons, and the mode.
+// What the desk takes of an accepted sample: speed and travel, pulses, beacon code, buttons, and the mode.
 pub struct Input {
     pub m: u32,
-    pub still: bool,
+    pub pulses: u16,
     pub beacon: u8,
     pub buttons: u16,
     pub bts: bool,
@@ -73,16 +73,16 @@ fn moved(d: Desk, settings: Settings, top: u32, x: Input) -> Turn
     }
 }
 
-fn answer_at(d: Desk, settings: Settings, top: u32, x: Input, speed: u32) -> Answer
-    ensures { λ r. ⌜ r ≡ answerOf settings top x speed d ⌝ }
+fn answer_at(d: Desk, settings: Settings, top: u32, m: u32, still: bool, speed: u32) -> Answer
+    ensures { λ r. ⌜ r ≡ answerOf settings top m still speed d ⌝ }
 {
     let crossing = d.beside.crossing;
     let limit = d.beside.limit;
     let row = settings.limit;
-    let removable = limit.is_removable(x.m, row.last, top);
+    let removable = limit.is_removable(m, row.last, top);
     Answer {
         speed: speed,
-        lamps: lamps_of(d, removable, x.still),
+        lamps: lamps_of(d, removable, still),
         cause: d.brake.cause,
         icon: crossing.icon(),
         limit: limit.on,
@@ -97,12 +97,14 @@ fn judged(d: Desk, settings: Settings, top: u32, x: Input, cause: u8) -> Stepped
     let speed = supervised(turned, settings, top);
     let fast = leaf::choose8(too_fast(x.m, speed), 5, 0);
     let arose = lowest(cause, fast);
-    let rearm = x.still & has_bit(x.buttons, button::REARM);
-    let braked = put_brake(turned, arose, rearm);
+    let brake = turned.brake;
+    let still = brake.at_standstill(x.pulses);
+    let rearm = still & has_bit(x.buttons, button::REARM);
+    let braked = put_brake(turned, arose, rearm, x.pulses);
     Stepped {
         desk: braked,
         arose: arose,
-        answer: answer_at(braked, settings, top, x, speed),
+        answer: answer_at(braked, settings, top, x.m, still, speed),
     }
 }
 

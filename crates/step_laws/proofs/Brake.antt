@@ -1,22 +1,26 @@
 -- The brake's laws: the rule on numbers, then of every sample.
-use Prim.Native.Nat.{ℕ}
-use mathlib.Core.Path.{_≡_, refl, sym, _∙_}
-use mathlib.Core.Bool.{Bool, true, false}
-use mathlib.Core.Logic.{_⊎_, inl, inr}
-use lib.Dec.{eqb}
-use borrow.Author.Tests.{eqb-true, eqb-false, ne-eqb}
+use Prim.Native.Nat.{ℕ, _≤_}
+use native.Mathlib.Omega.{arith}
+use mathlib.Core.Path.{_≡_, refl, sym, ap, _∙_}
+use mathlib.Core.Bool.{Bool, true, false, _&&_, not}
+use mathlib.Core.Logic.{_⊎_, inl, inr, _↔_}
+use lib.Dec.{leb, eqb}
+use borrow.Author.Tests.{le-leb, leb-true, eqb-true, eqb-false, ne-eqb}
 use Rattle.leaf.specs.Choosing.{pick, and-split}
-use Rattle.leaf.specs.Numbers.{bitOf}
+use Rattle.leaf.specs.Numbers.{agedOf, bitOf}
 use Rattle.leaf.specs.Buttons.{rearmButton}
 use Rattle.card.specs.declared.Settings.{Settings}
+use Rattle.desk.specs.declared.brake.Brake.{Brake}
 use Rattle.desk.specs.declared.state.Desk.{Desk}
+use Rattle.desk.specs.Brake.{standingTime, stoodAfter, standstill}
 use Rattle.step.specs.declared.Input.{Input}
 use Rattle.step.specs.Speed.{crossingTurned}
 use Rattle.step.specs.Brake.{standingCause, braked}
 use Rattle.step.specs.Step.{judgedOf, answerOf, stepOf}
-use Rattle.step_laws.specs.Brake.{rearms, causeAfter, causeArose, BrakeLaws}
+use Rattle.step_laws.specs.Brake.{AtStandstill, rearms, causeAfter, causeArose, stoodThen, BrakeLaws}
 use Rattle.step_laws.proofs.Carried.{carried-laws}
 use Rattle.step_laws.proofs.Causes.{arose-in}
+use Rattle.step_laws.proofs.Lamps.{lamp-rearm}
 
 -- ---- the rule, on numbers
 
@@ -51,6 +55,28 @@ rule-off : (before : ℕ) → standingCause before 0 true ≡ 0
 unfolding standingCause
 rule-off before = refl
 
+-- ---- standstill, on numbers
+
+pub standstill-as : (pulses : ℕ) (b : Brake) → (standstill pulses b ≡ true) ↔ AtStandstill pulses b
+unfolding standstill stoodAfter
+standstill-as pulses b = (only, when)
+  where
+    only : standstill pulses b ≡ true → AtStandstill pulses b
+    only h =
+        let t = and-split (eqb pulses 0) (leb standingTime (stoodAfter pulses (b .stood))) h in
+        let ten = leb-true standingTime (agedOf (b .stood)) (rw (t .0) at (t .1)) in
+        record { no-pulses = eqb-true pulses 0 (t .0); nine-before = omega arith }
+
+    when : AtStandstill pulses b → standstill pulses b ≡ true
+    when h =
+        let nine = h .nine-before in
+        let ten : standingTime ≤ agedOf (b .stood) = omega arith in
+        rw (h .no-pulses, le-leb standingTime (agedOf (b .stood)) ten)
+
+not-true : (t : Bool) → not t ≡ true → t ≡ false
+not-true true h = sym h
+not-true false h = refl
+
 -- ---- of every sample
 
 module _ (s : Settings) (top : ℕ) (x : Input) (d : Desk) where
@@ -60,7 +86,7 @@ module _ (s : Settings) (top : ℕ) (x : Input) (d : Desk) where
   abbrev arose : ℕ
   arose = causeArose s top x d
 
-  cause-after : after ≡ standingCause (d .brake .cause) arose (rearms x)
+  cause-after : after ≡ standingCause (d .brake .cause) arose (rearms x d)
   unfolding stepOf judgedOf braked crossingTurned
   cause-after = rw (carried-laws s top x d .to-brake)
 
@@ -69,17 +95,18 @@ module _ (s : Settings) (top : ℕ) (x : Input) (d : Desk) where
   cause-told = refl
 
   stands-until : (d .brake .cause ≡ 0 → ⊥)
-      → (after ≡ d .brake .cause) ⊎ ((after ≡ 0) × ((x .still ≡ true) × ((bitOf (x .buttons) rearmButton ≡ true) × (arose ≡ 0))))
-  stands-until n = cases (rule-stands (d .brake .cause) arose (rearms x) n)
+      → (after ≡ d .brake .cause) ⊎ ((after ≡ 0) × (AtStandstill (x .pulses) (d .brake) × ((bitOf (x .buttons) rearmButton ≡ true) × (arose ≡ 0))))
+  stands-until n = cases (rule-stands (d .brake .cause) arose (rearms x d) n)
     where
       cases :
-          (standingCause (d .brake .cause) arose (rearms x) ≡ d .brake .cause) ⊎ ((standingCause (d .brake .cause) arose (rearms x) ≡ 0) × ((rearms x ≡ true) × (arose ≡ 0)))
-          → (after ≡ d .brake .cause) ⊎ ((after ≡ 0) × ((x .still ≡ true) × ((bitOf (x .buttons) rearmButton ≡ true) × (arose ≡ 0))))
+          (standingCause (d .brake .cause) arose (rearms x d) ≡ d .brake .cause) ⊎ ((standingCause (d .brake .cause) arose (rearms x d) ≡ 0) × ((rearms x d ≡ true) × (arose ≡ 0)))
+          → (after ≡ d .brake .cause) ⊎ ((after ≡ 0) × (AtStandstill (x .pulses) (d .brake) × ((bitOf (x .buttons) rearmButton ≡ true) × (arose ≡ 0))))
       cases (inl e) = inl (cause-after ∙ e)
-      cases (inr e) = let r = and-split (x .still) (bitOf (x .buttons) rearmButton) (e .1 .0) in inr (cause-after ∙ e .0, (r .0, (r .1, e .1 .1)))
+      cases (inr e) = let r = and-split (standstill (x .pulses) (d .brake)) (bitOf (x .buttons) rearmButton) (e .1 .0) in
+          inr (cause-after ∙ e .0, (standstill-as (x .pulses) (d .brake) .0 (r .0), (r .1, e .1 .1)))
 
   brake-on : (arose ≡ 0 → ⊥) → after ≡ pick (eqb (d .brake .cause) 0) arose (d .brake .cause)
-  brake-on n = cause-after ∙ rule-on (d .brake .cause) arose (rearms x) n
+  brake-on n = cause-after ∙ rule-on (d .brake .cause) arose (rearms x d) n
 
   brake-not-off : (arose ≡ 0 → ⊥) → after ≡ 0 → ⊥
   brake-not-off n z = cases (eqb (d .brake .cause) 0) refl (sym (brake-on n) ∙ z)
@@ -88,18 +115,41 @@ module _ (s : Settings) (top : ℕ) (x : Input) (d : Desk) where
       cases true e h = n h
       cases false e h = eqb-false (d .brake .cause) 0 e h
 
-  goes-off : x .still ≡ true → bitOf (x .buttons) rearmButton ≡ true → arose ≡ 0 → after ≡ 0
-  goes-off still pressed none = cause-after ∙ rw (none, still, pressed) (rule-off (d .brake .cause))
+  goes-off : AtStandstill (x .pulses) (d .brake) → bitOf (x .buttons) rearmButton ≡ true → arose ≡ 0 → after ≡ 0
+  goes-off still pressed none = cause-after ∙ rw (none, standstill-as (x .pulses) (d .brake) .1 still, pressed) (rule-off (d .brake .cause))
+
+  stood-then : stoodThen s top x d ≡ stoodAfter (x .pulses) (d .brake .stood)
+  unfolding stepOf judgedOf braked crossingTurned
+  stood-then = rw (carried-laws s top x d .to-brake)
+
+  -- the lamp, on numbers
+  lit : bitOf (stepOf s top x d .answer .lamps) rearmButton ≡ (standstill (x .pulses) (d .brake) && not (eqb after 0))
+  unfolding stepOf judgedOf answerOf crossingTurned
+  lit = lamp-rearm _ _ _ ∙ ap (λ (b : Brake). standstill (x .pulses) b && not (eqb after 0)) (carried-laws s top x d .to-brake)
+
+  lamp-10 : (bitOf (stepOf s top x d .answer .lamps) rearmButton ≡ true) ↔ ((after ≡ 0 → ⊥) × AtStandstill (x .pulses) (d .brake))
+  lamp-10 = (only, when)
+    where
+      only : bitOf (stepOf s top x d .answer .lamps) rearmButton ≡ true → (after ≡ 0 → ⊥) × AtStandstill (x .pulses) (d .brake)
+      only h =
+          let t = and-split (standstill (x .pulses) (d .brake)) (not (eqb after 0)) (sym lit ∙ h) in
+          (eqb-false after 0 (not-true (eqb after 0) (t .1)), standstill-as (x .pulses) (d .brake) .0 (t .0))
+
+      when : (after ≡ 0 → ⊥) × AtStandstill (x .pulses) (d .brake) → bitOf (stepOf s top x d .answer .lamps) rearmButton ≡ true
+      when h = lit ∙ rw (standstill-as (x .pulses) (d .brake) .1 (h .1), ne-eqb after 0 (h .0))
 
   pub brake-laws : BrakeLaws s top x d
   brake-laws =
       record {
+        standstill-as = standstill-as (x .pulses) (d .brake);
+        stood-then = stood-then;
         cause-after = cause-after;
         cause-told = cause-told;
         arose-high = arose-in s top x d;
         stands-until = stands-until;
-        first-stands = λ z. cause-after ∙ rule-first (d .brake .cause) arose (rearms x) z;
+        first-stands = λ z. cause-after ∙ rule-first (d .brake .cause) arose (rearms x d) z;
         brake-on = brake-on;
         brake-not-off = brake-not-off;
         goes-off = goes-off;
+        lamp-10 = lamp-10;
       }

@@ -4,6 +4,7 @@ pub mod Facts
 pub mod Parts
 pub mod Carried
 pub mod Causes
+pub mod Lamps
 pub mod Ranges
 pub mod Windows
 pub mod Presses

@@ -3,7 +3,7 @@
 use Prim.Native.Nat.{ℕ, _≤_}
 use native.Mathlib.Omega.{arith}
 use mathlib.Core.Bool.{Bool, true, false, _&&_, _||_}
-use lib.Dec.{leb}
+use lib.Dec.{leb, eqb}
 use Rattle.leaf.specs.Choosing.{pick}
 use Rattle.leaf.specs.Numbers.{ageTop, distanceTop, causeTop, agedOf, furtherOf, belowOf}
 use Rattle.signals.specs.declared.window.Waits.{Waits}
@@ -25,7 +25,7 @@ use Rattle.sides.specs.Crossing.{noCrossing, crossingEnd, iconDistance, isProte
 use Rattle.sides.specs.Limit.{noLimit, limitOlder, limitSet, stepped, hidden}
 use Rattle.desk.specs.declared.brake.Brake.{Brake}
 use Rattle.desk.specs.declared.beside.Beside.{Beside}
-use Rattle.desk.specs.Brake.{noBrake, brakeWithCause}
+use Rattle.desk.specs.Brake.{stoodAfter, openingBrake, brakeAfter}
 use Rattle.desk.specs.Beside.{nothingBeside, besideWithAlongside, besideWithCrossing, besideWithLimit, besideOlder}
 use Rattle.step_laws.specs.Ranges.{BrakeIn, MainIn, WindowIn, OverrideIn, ReminderIn, OptionIn, AlongsideIn, CrossingIn, LimitIn, BesideIn}
 use Rattle.step_laws.proofs.Choosing.{pick-has, pick-low}
@@ -170,11 +170,12 @@ limit-hidden l h = let s = h .steps in record { age = h .age; steps = omega arit
 
 -- ---- the desk's parts: the brake, and what stands beside the main control
 
-pub brake-off : BrakeIn noBrake
-brake-off = record { cause = omega arith }
+pub brake-opening : BrakeIn openingBrake
+brake-opening = record { cause = omega arith; stood = omega arith }
 
-pub brake-cause : (cause : ℕ) (b : Brake) → cause ≤ causeTop → BrakeIn b → BrakeIn (brakeWithCause cause b)
-brake-cause cause b p h = record { cause = p }
+pub brake-after : (cause pulses : ℕ) (b : Brake) → cause ≤ causeTop → BrakeIn (brakeAfter cause pulses b)
+unfolding stoodAfter
+brake-after cause pulses b p = record { cause = p; stood = pick-low ageTop (eqb pulses 0) {x = agedOf (b .stood)} {y = 0} (omega arith) (omega arith) }
 
 pub beside-nothing : BesideIn nothingBeside
 beside-nothing = record { alongside = alongside-none; crossing = crossing-none; limit = limit-none }

@@ -20,8 +20,8 @@ use Rattle.sides.specs.declared.limit.Limit.{Limit}
 use Rattle.desk.specs.declared.brake.Brake.{Brake}
 use Rattle.desk.specs.declared.beside.Beside.{Beside}
 use Rattle.desk.specs.declared.state.Desk.{Desk}
-use Rattle.desk.specs.Brake.{noBrake}
-use Rattle.desk.specs.State.{withBts, withCode, withBrake, withCause, withMain, withWindow, withSide, withArmed, withReminder, withOption, withBeside, withAlongside, withCrossing, withLimit, takenOver, crossingSet, limitNow, freshDesk, restingOf, modeChanged}
+use Rattle.desk.specs.Brake.{openingBrake}
+use Rattle.desk.specs.State.{withBts, withCode, withBrake, withMain, withWindow, withSide, withArmed, withReminder, withOption, withBeside, withAlongside, withCrossing, withLimit, takenOver, crossingSet, limitNow, freshDesk, restingOf, modeChanged}
 use Rattle.desk.specs.Clock.{deskOlder, reminded}
 use Rattle.buttons.specs.Buttons.{optionUsed, limitRemoved, reminderAnswered, overrideArmed, stopIncreased, limitStepped, hidePressed}
 use Rattle.beacons.specs.Beacons.{mainOpened, sideOpened, optionOffered, reading4, remindedAfter, stopped}
@@ -30,7 +30,7 @@ use Rattle.step.specs.Speed.{crossingTurned}
 use Rattle.step.specs.Brake.{standingCause, braked}
 use Rattle.step.specs.Step.{movedOf, judgedOf, stepOf}
 use Rattle.step_laws.specs.Ranges.{BrakeIn, MainIn, WindowIn, OverrideIn, ReminderIn, OptionIn, AlongsideIn, CrossingIn, LimitIn, BesideIn, DeskIn, RangeLaws}
-use Rattle.step_laws.proofs.Parts.{brake-off, brake-cause, main-of, main-fresh, main-older, main-increased, window-closed, window-opened, window-older, time-left, override-off, override-now, override-older, reminder-fresh, reminder-older, reminder-reminded, reminder-pressed, option-none, option-now, option-older, alongside-none, alongside-after, crossing-unprotected, crossing-protected, crossing-turned, limit-none, limit-set, limit-stepped, limit-hidden, beside-nothing, beside-older, beside-alongside, beside-crossing, beside-limit}
+use Rattle.step_laws.proofs.Parts.{brake-opening, brake-after, main-of, main-fresh, main-older, main-increased, window-closed, window-opened, window-older, time-left, override-off, override-now, override-older, reminder-fresh, reminder-older, reminder-reminded, reminder-pressed, option-none, option-now, option-older, alongside-none, alongside-after, crossing-unprotected, crossing-protected, crossing-turned, limit-none, limit-set, limit-stepped, limit-hidden, beside-nothing, beside-older, beside-alongside, beside-crossing, beside-limit}
 use Rattle.step_laws.specs.Walk.{Sets, ToBeacon, OfBeacon}
 use Rattle.step_laws.proofs.Choosing.{pick-low}
 use Rattle.step_laws.proofs.Walk.{at-beacon, after-beacon}
@@ -70,9 +70,6 @@ module _ {d : Desk} (h : DeskIn d) where
 -- ---- one member of a part changed
 
 module _ {d : Desk} (h : DeskIn d) where
-  set-cause : (x : ℕ) → x ≤ causeTop → DeskIn (withCause x d)
-  set-cause x p = set-brake h _ (brake-cause x (d .brake) p (h .brake))
-
   set-alongside : (x : Alongside) → AlongsideIn x → DeskIn (withAlongside x d)
   set-alongside x p = set-beside h _ (beside-alongside x (d .beside) p (h .beside))
 
@@ -100,7 +97,7 @@ bare-in bts code b m p q r =
     }
 
 fresh-in : DeskIn freshDesk
-fresh-in = bare-in false 0 noBrake _ (omega arith) brake-off (main-fresh main.Start)
+fresh-in = bare-in false 0 openingBrake _ (omega arith) brake-opening (main-fresh main.Start)
 
 resting-in : (bts : Bool) → MainIn (restingOf bts)
 resting-in true = main-fresh main.Clear
@@ -194,13 +191,13 @@ unfolding standingCause
 standing-in before arose rearm p q =
     pick-low causeTop (eqb arose 0) (pick-low causeTop rearm {x = 0} {y = before} (omega arith) p) (pick-low causeTop (eqb before 0) {x = arose} {y = before} q p)
 
-braked-in : (arose : ℕ) (rearm : Bool) (d : Desk) → arose ≤ causeTop → DeskIn d → DeskIn (braked arose rearm d)
+braked-in : (arose : ℕ) (rearm : Bool) (pulses : ℕ) (d : Desk) → arose ≤ causeTop → DeskIn d → DeskIn (braked arose rearm pulses d)
 unfolding braked
-braked-in arose rearm d a h = set-cause h _ (standing-in (d .brake .cause) arose rearm (h .brake .cause) a)
+braked-in arose rearm pulses d a h = set-brake h _ (brake-after _ pulses (d .brake) (standing-in (d .brake .cause) arose rearm (h .brake .cause) a))
 
 step-in : (s : Settings) (top : ℕ) (x : Input) (d : Desk) → x .beacon ≤ codeTop → DeskIn d → DeskIn (stepOf s top x d .desk)
 unfolding stepOf judgedOf
-step-in s top x d b h = braked-in _ _ _ (arose-in s top x d) (turned-in (x .m) _ (moved-in s top x d b h))
+step-in s top x d b h = braked-in _ _ _ _ (arose-in s top x d) (turned-in (x .m) _ (moved-in s top x d b h))
 
 pub range-laws : RangeLaws
 range-laws = record { desk-inside = λ d. (desk-only d, desk-when d); fresh-in = fresh-in; step-in = step-in }

@@ -26,8 +26,10 @@ use Rattle.step.specs.Step.{stepOf}
 
 -- ---- the facts
 
+-- 02 b: the count of samples without pulses, "range 0..30,000" (b5)
 pub record BrakeIn (b : Brake) : Type 0 where
   pub cause : b .cause ≤ causeTop
+  pub stood : b .stood ≤ ageTop
 
 pub record MainIn (c : Main) : Type 0 where
   pub age : c .age ≤ ageTop

@@ -117,7 +117,7 @@ abbrev pub waitingDesk : Desk
 waitingDesk = withWindow (record { waits = waits.Six; left = 10; age = 20; distance = 0 }) freshDesk
 
 abbrev pub beacon7 : Input
-beacon7 = record { m = 0; still = true; beacon = 7; buttons = 0; bts = false }
+beacon7 = record { m = 0; pulses = 0; beacon = 7; buttons = 0; bts = false }
 
 abbrev pub lentDesk : Settings → ℕ → Desk
 lentDesk s top = withWindow (opened waits.Seven missTime) (stepOf s top beacon7 waitingDesk .desk)
@@ -129,7 +129,7 @@ sharingDesk =
     (withSide (record { waits = waits.Nine; left = 10; age = 20; distance = 0 }) freshDesk)
 
 abbrev pub beacon10 : Input
-beacon10 = record { m = 0; still = true; beacon = 10; buttons = crossingButton; bts = false }
+beacon10 = record { m = 0; pulses = 0; beacon = 10; buttons = crossingButton; bts = false }
 
 abbrev pub sideLentDesk : Settings → ℕ → Desk
 sideLentDesk s top = withSide (opened waits.Limit missTime) (stepOf s top beacon10 sharingDesk .desk)

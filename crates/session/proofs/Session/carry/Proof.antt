@@ -3,7 +3,7 @@ use Rattle.session.proofs.Session.carry.Statement.{statement}
 use Rattle.session.proofs.Session.carry.Tie as tie
 
 returns : tie.Need-returns
-returns c = simp (c .before .is-standing .ensures, c .before .before .travel .ensures)
+returns c = simp (c .before .travel .ensures)
 
 pub carry-spec : {M : Type 1} → statement M
-carry-spec = tie.close (tie.spec (λ c κs. search needs) (λ c κs. search needs) returns)
+carry-spec = tie.close (tie.spec (λ c κs. search needs) returns)

@@ -18,15 +18,15 @@ or-fault-requires-2 c κs = search needs
 or-fault-requires-3 : tie.Need-or-fault-requires-3
 or-fault-requires-3 c κs = search needs
 
-is-standing-requires : tie.Need-is-standing-requires
-is-standing-requires c κs = search needs
+at-standstill-requires : tie.Need-at-standstill-requires
+at-standstill-requires c κs = search needs
 
 or-fault-requires-4 : tie.Need-or-fault-requires-4
 or-fault-requires-4 c κs = search needs
 
 returns : tie.Need-returns
 unfolding refusedBy
-returns c = simp (c .or-fault4 .ensures, c .before .is-standing .ensures, c .before .before .or-fault3 .ensures, c .before .before .before .or-fault2 .ensures, c .before .before .before .before .or-fault .ensures, c .before .before .before .before .before .before .before .before .before .before .before .before .travel .ensures, c .before .before .before .before .before .before .before .before .before .before .before .before .before .is-inside .ensures)
+returns c = simp (c .or-fault4 .ensures, c .before .at-standstill .ensures, c .before .before .or-fault3 .ensures, c .before .before .before .or-fault2 .ensures, c .before .before .before .before .or-fault .ensures, c .before .before .before .before .before .before .before .before .before .before .before .before .before .travel .ensures, c .before .before .before .before .before .before .before .before .before .before .before .before .before .before .is-inside .ensures)
 
 pub refusal-spec : {M : Type 1} → statement M
 refusal-spec =
@@ -37,6 +37,6 @@ refusal-spec =
     or-fault-requires
     or-fault-requires-2
     or-fault-requires-3
-    is-standing-requires
+    at-standstill-requires
     or-fault-requires-4
     returns)
