@@ -20,6 +20,7 @@ pub mod PrintedLine
 pub mod WholeText
 pub mod LineExamples
 pub mod Pieces
+pub mod Standing
 pub mod ShutOut
 pub mod Starred
 pub mod LazyLogics

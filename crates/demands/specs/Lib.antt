@@ -5,6 +5,7 @@ pub mod Speaks
 pub mod Examples
 pub mod Demand3
 pub mod Pieces
+pub mod Standing
 pub mod ShutOut
 pub mod Starred
 pub mod Lazy
