@@ -1,6 +1,6 @@
-// What no recording can show: a session that goes on after a refused sample, one that is handed in with another tick length or
-// out of its ranges, and a card under highest version 1. Each sample's line is S, lamps, cause, crossing icon, limit standing or
-// not; or the refusal. The lines of stdout are worked from document 01; what each case is after stands above it.
+// What no recording can show: a session that goes on after a refused sample, one that is handed in with another tick length or count of
+// samples without pulses, or out of its ranges, and a card under highest version 1. Each sample's line is S, lamps, cause, crossing icon,
+// limit standing or not; or the refusal. The lines of stdout are worked from documents 01 and 02; what each case is after stands above it.
 //
 // The card is K of lessons/cards, with train type 8. At age k start gives 15000 - 10k hundredths of km/h and before-stop 6000 - 10k;
 // the tick length is 100, and BTS has 70 km/h.
@@ -93,6 +93,11 @@ fn with_train(mut session: Session, train: u8) -> Session {
     session
 }
 
+fn with_stood(mut session: Session, stood: u16) -> Session {
+    session.desk.brake.stood = stood;
+    session
+}
+
 fn with_last_code(mut session: Session, code: u8) -> Session {
     session.desk.code = code;
     session
@@ -138,6 +143,46 @@ fn session_refused(session: Session) {
     let slow = reads(with_vmax(with_train(nine, 8), 199), 0, 0);
     let code = reads(with_last_code(with_vmax(slow, 200), 12), 0, 0);
     reads(with_last_code(code, 7), 0, 0);
+}
+
+fn four_still(session: Session) -> Session {
+    let one = reads(session, 0, 0);
+    let two = reads(one, 0, 0);
+    let three = reads(two, 0, 0);
+    reads(three, 0, 0)
+}
+
+// A beacon 8 at 36 km/h is cause 4 and sets stop, 40 km/h, with the lamp of increase. Then five samples without pulses, and one that is
+// refused.
+fn five_and_refused(session: Session) -> Session {
+    let braked = reads(session, 100, 8);
+    let one = reads(braked, 0, 0);
+    let five = four_still(one);
+    after(five, 1001, 0, 0, 1)
+}
+
+// With four more and the one that carries rearm there are ten: rearmed. With three more there are nine: the brake stays on and lamp 10 dark.
+fn run_unbroken(session: Session) {
+    say(b"a refused sample neither counts among ten without pulses nor breaks their run\n");
+    let nine = four_still(five_and_refused(session));
+    after(nine, 0, 0, 1024, 1);
+    say(b"and with nine it is not standstill\n");
+    let six = reads(five_and_refused(session), 0, 0);
+    let seven = reads(six, 0, 0);
+    let eight = reads(seven, 0, 0);
+    after(eight, 0, 0, 1024, 1);
+}
+
+// Nine before are enough for the mode to change, eight are not. The count stops at 30,000, which is standstill still; more is out of range.
+fn count_handed_in(session: Session) {
+    say(
+        b"a session with a count of 9 changes its mode, with 8 it does not; it may have 30,000 and no more\n",
+    );
+    after(with_stood(session, 9), 0, 0, 0, 2);
+    after(with_stood(session, 8), 0, 0, 0, 2);
+    let full = reads(with_stood(session, 30000), 0, 0);
+    after(full, 0, 0, 0, 2);
+    reads(with_stood(session, 30001), 0, 0);
 }
 
 // 100,000 tenths of a millimetre, at 360 km/h.
@@ -195,6 +240,8 @@ fn rides(session: Session) {
     mode_refused(session);
     sample_refused(session);
     session_refused(session);
+    run_unbroken(session);
+    count_handed_in(session);
     zone(session);
 }
 
