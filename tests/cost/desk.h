@@ -1,4 +1,4 @@
-// A session of document 01 as a C programmer would keep it: one struct behind a pointer, changed where it stands.
+// A session of documents 01 and 02 as a C programmer would keep it: one struct behind a pointer, changed where it stands.
 #ifndef DESK_H
 #define DESK_H
 #include <stdbool.h>
@@ -75,6 +75,7 @@ struct limit {
 struct desk {
     bool bts;
     uint8_t code, cause;
+    uint16_t stood; // accepted samples running without pulses
     struct main_control main;
     struct window window, side;
     struct alongside alongside;

@@ -38,7 +38,7 @@ static bool type_allowed(uint8_t train, uint8_t vmax) { return train >= 1 && tra
 uint8_t session_open(struct session *s, const struct settings *settings, uint8_t train) {
     if (settings_fault(settings)) return 5;
     if (!type_allowed(train, settings->vmax)) return 7;
-    *s = (struct session){.settings = *settings, .train = train, .desk = {.main = {.kind = START}}};
+    *s = (struct session){.settings = *settings, .train = train, .desk = {.stood = 10, .main = {.kind = START}}};
     return 0;
 }
 
@@ -47,11 +47,17 @@ uint8_t session_open(struct session *s, const struct settings *settings, uint8_t
 static bool window_inside(const struct window *w) { return w->left <= 30000 && w->age <= 30000 && w->distance <= 60000000; }
 
 static bool desk_inside(const struct desk *d) {
-    return d->code <= 11 && d->cause <= 5 && d->main.age <= 30000 && d->main.distance <= 60000000 && window_inside(&d->window) &&
+    return d->code <= 11 && d->cause <= 5 && d->stood <= 30000 && d->main.age <= 30000 && d->main.distance <= 60000000 && window_inside(&d->window) &&
            window_inside(&d->side) && d->alongside.age <= 30000 && d->armed.age <= 30000 && d->reminder.age <= 30000 &&
            d->reminder.fast <= 30000 && d->reminder.distance <= 60000000 && d->crossing.age <= 30000 && d->crossing.distance <= 60000000 &&
            d->option.age <= 30000 && d->option.distance <= 60000000 && d->limit.age <= 30000 && d->limit.steps <= 8;
 }
+
+// ---- standstill
+
+static uint16_t stood_after(const struct desk *d, uint16_t pulses) { return pulses ? 0 : d->stood < 30000 ? d->stood + 1 : 30000; }
+
+static bool at_standstill(const struct desk *d, uint16_t pulses) { return pulses == 0 && stood_after(d, pulses) >= 10; }
 
 // ---- mode, ages and misses
 
@@ -152,7 +158,7 @@ static uint8_t advance(struct desk *d, uint32_t m, const struct settings *s) {
 }
 
 static void change_mode(struct desk *d, bool bts) {
-    *d = (struct desk){.bts = bts, .code = d->code, .cause = d->cause, .main = {.kind = bts ? CLEAR : START}};
+    *d = (struct desk){.bts = bts, .code = d->code, .cause = d->cause, .stood = d->stood, .main = {.kind = bts ? CLEAR : START}};
 }
 
 // ---- buttons
@@ -359,7 +365,7 @@ uint8_t session_sample(struct session *session, uint16_t pulses, uint8_t beacon,
     if (beacon > 11 || buttons > 2047 || mode < 1 || mode > 2) return 9;
     uint32_t m = (uint32_t)pulses * s->tick;
     if (m > 100000) return 10;
-    bool bts = mode == 2, still = pulses == 0;
+    bool bts = mode == 2, still = at_standstill(d, pulses);
     if (bts != d->bts && !still) return 11;
 
     uint32_t top = type_speed(session->train) * 100u;
@@ -380,6 +386,7 @@ uint8_t session_sample(struct session *session, uint16_t pulses, uint8_t beacon,
     } else if (still && buttons & 1024) {
         d->cause = 0;
     }
+    d->stood = stood_after(d, pulses);
 
     answer->speed = speed;
     answer->lamps = lamps_of(d, removable(&d->limit, m, s->rows[LIMIT_ROW].last, top), still);
