@@ -396,7 +396,7 @@ def card_fault(card):
 
 
 def sample_fault(card, before, count, sample):
-    """What the desk refuses in a sample after one of mode `before`, with which `count` run without pulses, as (number, sentence), or None."""
+    """What the desk refuses in a sample after one of mode `before`, as (number, sentence), or None; with it `count` run without pulses."""
     p, beacon, mask, mode = sample
     if beacon > BEACONS:
         return 9, out_of_range("beacon", beacon)
