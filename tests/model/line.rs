@@ -63,7 +63,7 @@ fn line(rng: &mut Rng, kind: Kind) -> Line {
     let (train, tick, vmax) = (session.train, session.settings.tick, session.settings.vmax);
     let most = rng.pick(&[1, 2, 3, 8, 24]);
     let n = if kind == Kind::NoSamples { 0 } else { rng.within(1, most) };
-    let ride = rng.pick(&["random", "answers", "drive"]);
+    let ride = rng.pick(&["random", "answers", "drive", "stand"]);
     let seed = rng.next();
     let samples = run(Rng::new(ride, seed), session, ride, n as usize).unwrap();
     let bytes = recorded(train, &samples);
