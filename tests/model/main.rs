@@ -16,6 +16,7 @@ mod pieces;
 mod receive;
 mod receive_check;
 mod ride;
+mod stand;
 mod stand_check;
 mod steer;
 mod tone;
