@@ -204,7 +204,12 @@ impl Line {
                 0 => sample.beacon = rng.pick(&[11, 12]),
                 1 => sample.buttons = rng.pick(&[0x07ff, 0x0700, 0x0800, 0x08ff]),
                 2 => sample.mode = rng.pick(&[0, 3]),
-                3 => sample.mode = rng.pick(&[1, 2]),
+                3 => {
+                    sample.mode = rng.pick(&[1, 2]);
+                    if rng.chance(50) {
+                        sample.pulses = 0;
+                    }
+                }
                 4 => sample.pulses = 0xffff,
                 5 => {
                     sample.pulses = 0xffff;
