@@ -7,6 +7,7 @@ from typing import NamedTuple
 
 import plain
 import programs
+import standstill
 
 ROOT = pathlib.Path(__file__).resolve().parent.parent
 sys.path.insert(0, str(ROOT / "lessons"))
@@ -27,7 +28,7 @@ MODES = {1: "CONV", 2: "BTS"}
 
 TYPES = [None, *script.TYPES]  # T in km/h
 
-# Document 01's table.
+# Document 01's table, with what document 02 changes in it.
 REFUSALS = {
     1: "card area under 3 bytes, or shorter than its record",
     2: "card version 0",
@@ -39,7 +40,7 @@ REFUSALS = {
     8: "session out of its ranges",
     9: "beacon, buttons or mode out of range",
     10: "pulses × tick length above 100,000",
-    11: "mode changed in a sample with pulses",
+    11: "mode changed while not at standstill",
     12: "tone sheet bad",
     13: "writer's buffer shorter than the record",
     14: "recording not exactly as long as stated, length not 6 + 6n with n ≤ 10,000, or version not 1",
@@ -106,7 +107,7 @@ class Answer(NamedTuple):
 
 class Ride:
     """A recording on a card, and what the desk answers: an answer for each accepted sample, then the number of the refusal or None.
-    A card and samples are there as far as there are answers."""
+    A card and samples are there as far as there are answers, and so is whether a sample is at standstill."""
 
     def __init__(self, card, recording):
         self.given = card, recording
@@ -117,6 +118,7 @@ class Ride:
         self.card = Card.of(card) if self.refusal is None or self.refusal not in OF_CARD else None
         self.kind = recording[HEAD - 1] if len(recording) >= HEAD else None
         self.samples = [Sample.of(recording[at:at + 6]) for at in range(HEAD, len(recording) - 5, 6)]
+        self.standstill = [standstill.is_reached(count) for count in standstill.counts(sample.pulses for sample in self.samples)]
 
     def steps(self):
         """Each accepted sample with its answer."""
@@ -164,9 +166,11 @@ def travel_fault(card, sample):
     return f"{sample.pulses} pulses x tick length {card.tick} = {card.travel(sample.pulses):,}, at most {script.MOST_TRAVEL:,}"
 
 
-def mode_fault(before, sample):
-    """Refusal 11."""
-    return f"mode changes from {MODES[before]} to {MODES[sample.mode]} in a sample with pulses: has {sample.pulses}, must have 0"
+def mode_fault(samples):
+    """Refusal 11, of the last of these samples; those before it were accepted."""
+    *_, count = standstill.counts(sample.pulses for sample in samples)
+    last = samples[-1]
+    return f"mode changes to {MODES[last.mode]} while not at standstill: {standstill.shortfall(count, last.pulses)}"
 
 
 def recording_fault(recording):
@@ -194,7 +198,9 @@ def sample_fault(number, answered, card, recording):
         return range_fault(sample)
     if number == 10:
         return travel_fault(card, sample)
-    return mode_fault(recording[at - 1] if answered else 1, sample) if number == 11 else None
+    if number == 11:
+        return mode_fault([*(Sample.of(recording[k:k + 6]) for k in range(HEAD, at, 6)), sample])
+    return None
 
 
 def fault(number, answered, card, recording):

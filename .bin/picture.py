@@ -160,7 +160,7 @@ class Picture:
 
     def stands(self, bottom):
         """Over distance a standstill has no width: a mark says where, and a label how long."""
-        still = [run for run in runs(bool(sample.pulses) for sample in self.samples) if not run[0]]
+        still = [run for run in runs(self.ride.standstill[:len(self.samples)]) if run[0]]
         if not self.over_distance or not still:
             return
         labels = placed([(self.at(first), f"stands {desk.duration(end - first)}") for _, first, end in still], 1)

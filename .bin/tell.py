@@ -10,8 +10,9 @@ import titles
 USAGE = """usage: ./tell [--title TITLE] CARD < RECORDING
 
 Tells a ride as a page: a line for each sample at which something changes, with its number and time, the metres travelled with it,
-the train's speed and its limit in km/h, and in words what is pressed and read, lamps, brake, crossing icon and limit. The title is
-the lesson's where the recording's file has a lesson's name. A refusal ends the page."""
+the train's speed and its limit in km/h, and in words what is pressed and read, lamps, brake, crossing icon and limit. The train stands
+from the tenth sample running without pulses on, and moves from the next pulse on. The title is the lesson's where the recording's file
+has a lesson's name. A refusal ends the page."""
 
 HEADING = f"{'n':>5} {'time':>7} {'metres':>8} {'speed':>7} {'limit':>7}   what happens"
 WIDTH = 120
@@ -58,8 +59,8 @@ def driven(ride, i, sample, last):
     """What the recording has new at a sample: mode, motion, presses, beacon."""
     if sample.mode != last.mode:
         yield f"mode {desk.MODES[sample.mode]}"
-    if bool(sample.pulses) != bool(last.pulses):
-        yield "moves" if sample.pulses else "stands"
+    if ride.standstill[i] != (ride.standstill[i - 1] if i else True):
+        yield "stands" if ride.standstill[i] else "moves"
     if sample.buttons:
         yield f"press: {listed(desk.names(sample.buttons))}"
     beacon = ride.passes(i)

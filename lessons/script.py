@@ -13,6 +13,7 @@ HERE = pathlib.Path(__file__).resolve().parent
 sys.path.append(str(HERE.parent / ".bin"))
 
 import plain  # noqa: E402
+import standstill  # noqa: E402
 
 STATUS = "Status: 0 done, 1 a script at fault or a print that differs, 2 usage, a file that cannot be read or output that could not be written."
 
@@ -394,8 +395,8 @@ def card_fault(card):
     return None
 
 
-def sample_fault(card, before, sample):
-    """What the desk refuses in a sample after one of mode `before`, as (number, sentence), or None."""
+def sample_fault(card, before, count, sample):
+    """What the desk refuses in a sample after one of mode `before`, as (number, sentence), or None; with it `count` run without pulses."""
     p, beacon, mask, mode = sample
     if beacon > BEACONS:
         return 9, out_of_range("beacon", beacon)
@@ -405,9 +406,9 @@ def sample_fault(card, before, sample):
         return 9, out_of_range("mode", mode)
     if p * card.tick() > MOST_TRAVEL:
         return 10, f"{p} pulses are too many: on card {card.name} a sample has at most {MOST_TRAVEL // card.tick()}"
-    if mode != before and p:
-        why = f"the mode changes in a sample with {p} pulses: it can change only while standing"
-        return 11, f"{why}, and a line without mode is CONV" if mode == CONV else why
+    if mode != before and not standstill.is_reached(count):
+        why = f"the mode changes while not at standstill: {standstill.shortfall(count, p)}"
+        return 11, f"{why}; a line without mode is CONV" if mode == CONV else why
     return None
 
 
@@ -424,9 +425,9 @@ def fault(ride):
     if TYPES[ride.kind - 1] > ride.card.vmax():
         said = f"train type {ride.kind} runs {TYPES[ride.kind - 1]} km/h"
         return 7, ride.kind_line, 0, f"{said}: card {ride.card.name} is for a vehicle of {ride.card.vmax()}"
-    before = CONV
-    for i, sample in enumerate(ride.samples):
-        found = sample_fault(ride.card, before, sample)
+    before, counts = CONV, standstill.counts(p for p, *_ in ride.samples)
+    for i, (sample, count) in enumerate(zip(ride.samples, counts)):
+        found = sample_fault(ride.card, before, count, sample)
         if found is not None:
             return found[0], ride.sample_lines[i], i, found[1]
         before = sample[3]

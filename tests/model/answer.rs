@@ -30,7 +30,7 @@ impl Session {
     }
 
     /// "Any cause puts the brake on; the first stands, lowest number within a sample. It goes off in a standstill
-    /// sample with rearm, if on before and no cause arises."
+    /// sample with rearm, if on before and no cause arises." Standstill is that of 02 b.
     pub fn brake(&mut self) {
         let lowest = self.arisen.iter().copied().min().unwrap_or(0);
         if self.cause == 0 {
@@ -41,7 +41,8 @@ impl Session {
     }
 
     /// "Lamps, bits as buttons: what a window waits for, beacon 3's option, override armed or reminded, increase for
-    /// stop (ages 0..99, till used), 6 when limit is removable, 10 when braked at standstill."
+    /// stop (ages 0..99, till used), 6 when limit is removable, 10 when braked at standstill." That is "braked after the
+    /// brake step and at standstill, also with a fresh cause" (b7).
     fn lamps(&self) -> u16 {
         let mut lamps = 0;
         for window in self.main_window.iter().chain(self.side_window.iter()) {

@@ -7,11 +7,11 @@ use crate::steer::{fresh, run};
 
 /// A sample out of range: 9, 10 or 11, or the last one that is not.
 pub fn bend_sample(rng: &mut Rng, sample: &mut Sample, tick: u16) {
-    match rng.within(0, 6) {
+    match rng.within(0, 7) {
         0 => sample.beacon = rng.pick(&[11, 12, 13, 255]),
         1 => sample.buttons = rng.pick(&[2047, 2048, 4096, 65535]),
         2 => sample.mode = rng.pick(&[0, 3, 255]),
-        3 | 4 => sample.pulses = (100_000 / tick as i64 + rng.within(0, 2)).min(65_535) as u16,
+        3 | 4 | 5 => sample.pulses = (100_000 / tick as i64 + rng.pick(&[0, 1, 1, 2])).min(65_535) as u16,
         _ => {
             sample.mode = 3 - sample.mode.clamp(1, 2);
             sample.pulses = rng.pick(&[0, 1, 1, 5]);
@@ -71,11 +71,12 @@ fn bend_frame(rng: &mut Rng, bytes: &mut Vec<u8>) {
             restate(bytes);
         }
         5 => {
-            // 10,001 samples, or 10,000.
+            // 10,001 samples, or 10,000, without pulses; the mode may change in each of the last.
             let n = rng.pick(&[10_000, 10_001]);
+            let changes = rng.chance(50);
             bytes.truncate(6);
-            for _ in 0..n {
-                bytes.extend([0, 0, 0, 0, 0, 1]);
+            for left in (0..n).rev() {
+                bytes.extend([0, 0, 0, 0, 0, if changes && left < 300 && left % 2 == 0 { 2 } else { 1 }]);
             }
             restate(bytes);
         }

@@ -1,4 +1,4 @@
-//! The session and the order of a sample: document 01, "The sample".
+//! The session and the order of a sample: document 01, "The sample", with standstill as document 02 b has it.
 
 use crate::card::{Settings, START};
 
@@ -9,6 +9,9 @@ pub const BTS: u8 = 2;
 /// "Ages count samples from the sample that starts them (age 0) and stop at 30,000; distances stop at 60,000,000."
 pub const AGE_TOP: i64 = 30_000;
 pub const DISTANCE_TOP: i64 = 60_000_000;
+
+/// "standstill is ten accepted samples running without pulses, this one included" (02 b).
+pub const STANDING: i64 = 10;
 
 /// A metre in the travel's unit, tenths of a millimetre.
 pub const METRE: i64 = 10_000;
@@ -97,6 +100,8 @@ pub struct Session {
     pub mode: u8,
     pub cause: u8,
     pub last_code: u8,
+    /// "The session gains a count" (02 b): the accepted samples running without pulses.
+    pub stood: i64,
     pub main: Main,
     pub main_age: i64,
     pub main_distance: i64,
@@ -109,7 +114,7 @@ pub struct Session {
     pub offer: Option<Offer>,
     pub crossing: Option<Crossing>,
     pub limit: Option<Limit>,
-    // This sample's own: m, whether it has pulses, the causes that arose in it, rearm pressed, S.
+    // This sample's own: m, whether it is a standstill, the causes that arose in it, rearm pressed, S.
     pub m: i64,
     pub standstill: bool,
     pub arisen: Vec<u8>,
@@ -138,7 +143,8 @@ fn older(age: i64) -> i64 {
 
 impl Session {
     /// Opening: "5, 7", 7 "train type not 1..8, or faster than vmax". "It opens in CONV with the start row as main
-    /// (age 1 in the first sample), last code 0."
+    /// (age 1 in the first sample), last code 0." "a newly opened session counts as standing" (02 b): "It opens at 10"
+    /// (b2).
     pub fn open(settings: Settings, train: u8) -> Result<Session, crate::card::Refusal> {
         if let Some(place) = crate::card::first_bad(&settings) {
             return Err(crate::card::refused_at(5, place));
@@ -152,6 +158,7 @@ impl Session {
             mode: CONV,
             cause: 0,
             last_code: 0,
+            stood: STANDING,
             main: Main::Row(START),
             main_age: 0,
             main_distance: 0,
@@ -177,7 +184,19 @@ impl Session {
         train_speed(self.train)
     }
 
-    /// "sample 8, 9, 10, 11"; 8 cannot occur, "every session we make is inside".
+    /// "An accepted sample with pulses makes the count 0." (b1) One without adds one; "The count stops at 30,000" (b5).
+    pub fn stood_with(&self, sample: &Sample) -> i64 {
+        if sample.pulses != 0 { 0 } else { older(self.stood) }
+    }
+
+    /// "Standstill: no pulses, and the count with this sample is 10 or more." (b1) "Rearm, its lamp and the mode change
+    /// all use it" (02 b), and nothing else does (b6).
+    pub fn stands_in(&self, sample: &Sample) -> bool {
+        sample.pulses == 0 && self.stood_with(sample) >= STANDING
+    }
+
+    /// "sample 8, 9, 10, 11"; 8 cannot occur, "every session we make is inside". 11: mode changed "while not at
+    /// standstill" (02 b).
     fn refusal(&self, sample: &Sample) -> Option<u8> {
         if sample.beacon > 11 || sample.buttons > 0b111_1111_1111 || (sample.mode != CONV && sample.mode != BTS) {
             return Some(9);
@@ -185,20 +204,22 @@ impl Session {
         if sample.pulses as i64 * self.settings.tick as i64 > 100_000 {
             return Some(10);
         }
-        if sample.mode != self.mode && sample.pulses != 0 {
+        if sample.mode != self.mode && !self.stands_in(sample) {
             return Some(11);
         }
         None
     }
 
     /// "Order in a sample: mode; ages and distances advance, endings, reminders and missed windows; buttons, lowest
-    /// bit first; beacon; speed; brake." A refused sample changes nothing (R 14).
+    /// bit first; beacon; speed; brake." A refused sample changes nothing (R 14): it "neither counts nor breaks the run"
+    /// (b4).
     pub fn sample(&mut self, sample: Sample) -> Result<Answer, u8> {
         if let Some(number) = self.refusal(&sample) {
             return Err(number);
         }
         self.m = sample.pulses as i64 * self.settings.tick as i64;
-        self.standstill = sample.pulses == 0;
+        self.standstill = self.stands_in(&sample);
+        self.stood = self.stood_with(&sample);
         self.arisen.clear();
         self.rearm = false;
         let left_bts = self.change_mode(sample.mode);
@@ -233,7 +254,7 @@ impl Session {
     }
 
     /// "BTS: entering drops all controls, windows and armed override; leaving drops them and sets start." Brake,
-    /// cause and last code survive (R 42). True when BTS was left.
+    /// cause and last code survive (R 42), and "a mode change leaves the count alone" (b4). True when BTS was left.
     fn change_mode(&mut self, mode: u8) -> bool {
         if mode == self.mode {
             return false;

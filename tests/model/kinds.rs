@@ -1,14 +1,22 @@
 //! The kinds of rides: what the track and the mode do, and the pace against S.
 
 use crate::damage;
-use crate::desk::{Main, Sample, BTS, CONV, METRE};
+use crate::desk::{Main, Sample, BTS, CONV, METRE, STANDING};
 use crate::steer::{Driver, Goal, Pace};
 
 impl Driver {
-    /// Pure random fields, mostly in range; standstill and rearm often enough that the brake goes off again.
+    /// Random fields, mostly in range; standstill and rearm often enough that the brake goes off again.
     pub fn random_sample(&mut self) -> bool {
         let most = (100_000 / self.tick()).min(65_535);
-        let mut sample = Sample { mode: self.session.mode, ..Sample::default() };
+        self.change_pace(&[Pace::Stand, Pace::Edge, Pace::Edge, Pace::Edge], 5, 20);
+        if self.session.cause != 0 && self.rng.chance(8) {
+            self.pace = Pace::Stand;
+            self.pace_left = self.rng.within(8, 14);
+        }
+        if self.rng.chance(1) {
+            self.want_mode();
+        }
+        let mut sample = Sample::default();
         sample.pulses = match self.rng.within(0, 9) {
             0 | 1 => 0,
             2 | 3 => self.pulses(Pace::Edge, self.session.s),
@@ -27,14 +35,12 @@ impl Driver {
                 sample.buttons = self.rng.within(0, 2047) as u16;
             }
         }
-        if self.session.cause != 0 && self.rng.chance(35) {
+        let (mode, pace) = self.mode_and_pace(self.pace);
+        sample.mode = mode;
+        if matches!(pace, Pace::Stand) {
             sample.pulses = 0;
-            sample.buttons |= 1024;
         }
-        if self.rng.chance(2) {
-            sample.pulses = 0;
-            sample.mode = 3 - sample.mode;
-        }
+        self.press_rearm(&mut sample);
         if self.rng.within(0, 1500) == 0 {
             damage::bend_sample(&mut self.rng, &mut sample, self.session.settings.tick);
         }
@@ -59,18 +65,16 @@ impl Driver {
         if self.session.main_window.is_some_and(|window| window.zone && window.age < 9) && self.rng.chance(8) {
             // Over the zone's window while more than 30 samples are left to its miss.
             let code = self.rng.pick(&[1, 2, 5, 6, 7]);
-            return self.go(code, CONV, buttons);
+            return self.go(code, buttons);
         }
         self.next_beacon -= 1;
         if self.next_beacon > 0 {
             let hold = self.session.last_code != 0 && self.rng.chance(15);
             let beacon = if hold { self.session.last_code } else { 0 };
-            let mode = if self.rng.within(0, 400) == 0 || (self.session.mode == BTS && self.rng.chance(1)) {
-                3 - self.session.mode
-            } else {
-                self.session.mode
-            };
-            return self.go(beacon, mode, buttons);
+            if self.rng.within(0, 400) == 0 || (self.session.mode == BTS && self.rng.chance(1)) {
+                self.want_mode();
+            }
+            return self.go(beacon, buttons);
         }
         self.next_beacon = match self.rng.within(0, 9) {
             0..=3 => self.rng.within(1, 8),
@@ -80,7 +84,7 @@ impl Driver {
         let code = self.rng.pick(&[1, 1, 1, 9, 9, 7, 7, 7, 3, 3, 8, 2, 5, 6, 10, 11, 4]);
         if self.session.main == Main::Row(4) && self.rng.chance(60) {
             let code = self.rng.pick(&[7, 7, 1]);
-            return self.go(code, self.session.mode, buttons);
+            return self.go(code, buttons);
         }
         if code == 7 && self.rng.chance(35) {
             // Fast to 80 m with nothing between.
@@ -94,9 +98,9 @@ impl Driver {
         if self.session.offer.is_some() && self.rng.chance(30) {
             // A beacon 4 while beacon 3's option is open.
             self.pace = Pace::Reckless(self.rng.within(11_200, 16_000));
-            return self.go(4, self.session.mode, buttons);
+            return self.go(4, buttons);
         }
-        self.go(code, self.session.mode, buttons)
+        self.go(code, buttons)
     }
 
     /// Close under S from below, so that S is seen falling and other causes than 5 come first.
@@ -109,17 +113,15 @@ impl Driver {
         if self.next_beacon == 20 && self.rng.chance(30) {
             buttons |= 128;
         }
-        let mode = if self.rng.within(0, 1500) == 0 || (self.session.mode == BTS && self.rng.within(0, 300) == 0) {
-            3 - self.session.mode
-        } else {
-            self.session.mode
-        };
+        if self.rng.within(0, 1500) == 0 || (self.session.mode == BTS && self.rng.within(0, 300) == 0) {
+            self.want_mode();
+        }
         if self.next_beacon > 0 {
-            return self.go(0, mode, buttons);
+            return self.go(0, buttons);
         }
         self.next_beacon = self.rng.within(25, 200);
         let code = self.rng.pick(&[1, 1, 2, 3, 3, 4, 5, 6, 7, 8, 9, 10, 10, 11]);
-        self.go(code, mode, buttons)
+        self.go(code, buttons)
     }
 
     /// One goal after the other, each held long enough for its distance or its samples.
@@ -129,15 +131,15 @@ impl Driver {
             self.new_goal();
         }
         if (self.goal == Goal::Bts) != (self.session.mode == BTS) {
-            return self.go(0, 3 - self.session.mode, 0);
+            self.want_mode();
+            return self.go(0, 0);
         }
         self.next_beacon -= 1;
-        let mode = self.session.mode;
         if self.next_beacon == 10 && self.goal == Goal::Stop {
-            return self.go(0, mode, 128);
+            return self.go(0, 128);
         }
         if self.next_beacon > 0 {
-            return self.go(0, mode, 0);
+            return self.go(0, 0);
         }
         let (code, gap) = match self.goal {
             Goal::Signals => (self.rng.pick(&[1, 2, 3, 5, 6, 7]), self.rng.within(40, 200)),
@@ -148,7 +150,39 @@ impl Driver {
             Goal::Bts => (self.rng.pick(&[4, 4, 9, 9, 10, 11, 10, 8, 3]), self.rng.within(30, 250)),
         };
         self.next_beacon = gap;
-        self.go(code, mode, 0)
+        self.go(code, 0)
+    }
+
+    /// It moves, creeps and stands by turns, and is braked often: rearms and mode changes around the tenth sample
+    /// without pulses, in either mode, before it ever moved too. The last mode change may come too early.
+    pub fn stand_sample(&mut self) -> bool {
+        let zeros = self.rng.within(1, 12);
+        let near = self.rng.within(0, 2_000);
+        let m = self.rng.within(20_000, 60_000);
+        self.change_pace(&[Pace::Stand, Pace::Creep(zeros), Pace::Creep(zeros), Pace::Under(near), Pace::Reckless(m)], 2, 15);
+        if self.at_last_try() {
+            if self.rng.chance(25) {
+                // While moving, and out of range too: 9 or 10 goes before 11.
+                let too_many = (100_000 / self.tick() + 1) as u16;
+                let (pulses, beacon) = self.rng.pick(&[(1, 12), (too_many, 0)]);
+                return self.push(Sample { pulses, beacon, buttons: 0, mode: 3 - self.session.mode });
+            }
+            let early = self.rng.within(1, 8);
+            self.mode_at = Some(self.rng.pick(&[0, early, early, 9, 9, 9, 9, 10]));
+        } else if self.rng.chance(3) {
+            self.want_mode();
+        }
+        if self.session.cause != 0 && self.session.stood >= STANDING && self.rng.chance(20) {
+            // A fresh cause with the rearm.
+            return self.go(8, 1024);
+        }
+        self.next_beacon -= 1;
+        if self.next_beacon > 0 {
+            return self.go(0, 0);
+        }
+        self.next_beacon = self.rng.within(2, 30);
+        let code = self.rng.pick(&[8, 8, 8, 1, 9, 10, 4]);
+        self.go(code, 0)
     }
 
     fn new_goal(&mut self) {
@@ -156,13 +190,13 @@ impl Driver {
         self.goal = if self.goal == Goal::Stop && self.rng.chance(70) {
             Goal::Alongside
         } else {
-            self.rng.pick(&[Goal::Signals, Goal::Crossing, Goal::Stop, Goal::Stop, Goal::Stop, Goal::Limit, Goal::Bts])
+            self.rng.pick(&[Goal::Signals, Goal::Crossing, Goal::Stop, Goal::Stop, Goal::Stop, Goal::Stop, Goal::Limit, Goal::Bts])
         };
         self.goal_left = self.rng.within(300, 1_200);
         if self.goal == Goal::Bts {
             self.goal_left /= 2;
         }
-        if self.goal == Goal::Stop && self.rng.chance(40) {
+        if self.goal == Goal::Stop && self.rng.chance(30) {
             // Taken over before its reminders are done.
             self.goal_left = self.rng.within(30, 300);
         }

@@ -16,6 +16,8 @@ mod pieces;
 mod receive;
 mod receive_check;
 mod ride;
+mod stand;
+mod stand_check;
 mod steer;
 mod tone;
 mod windows;
@@ -29,7 +31,7 @@ model cover CARD < RECORDING
 model cover-pieces < BATCH
 model answer < BATCH
 model make cards|settings|tones|pieces SEED SIZE > BATCH
-model make-ride random|answers|drive|long|damaged SEED SAMPLES CARDFILE RECFILE
+model make-ride random|answers|drive|long|stand|damaged SEED SAMPLES CARDFILE RECFILE
 model make-line SEED CARDFILE LINEFILE
 model self";
 

@@ -133,13 +133,14 @@ pub fn print(card: &[u8], bytes: &[u8], lengths: &[usize], out: &mut impl Write)
     }
 }
 
-/// What a batch may meet, a row each: both sides of every line of a2 to a4, and the calls of a5 to a9.
-const ROWS: [&str; 68] = [
+/// What a batch may meet, a row each: both sides of every line of a2 to a4, refusal 11 as 02 b has it, and the calls of
+/// a5 to a9.
+const ROWS: [&str; 69] = [
     "byte 0 is 0", "byte 0 is not 0", "byte 1 is 0", "byte 1 is not 0", "byte 2 is EA", "byte 2 is EB",
     "stated 0", "stated 6", "stated 7", "stated 12", "stated 60006", "stated 60007", "stated 60012",
     "version 1", "version 0", "version 2", "type 0", "the last type that is allowed", "the first that is not",
     "beacon 11", "beacon 12", "buttons from 07", "buttons from 08", "mode 0", "mode 1", "mode 2", "mode 3",
-    "m 100,000", "refused 10", "mode changed at standstill", "refused 11",
+    "m 100,000", "refused 10", "mode changed at standstill", "refused 11 with pulses", "refused 11 without pulses",
     "pulses FFFF, then 9 by the beacon", "pulses FFFF, then the end",
     "all stated bytes in, open", "a byte past the stated length",
     "end, all in", "end, all in, no samples", "end in the head", "end between samples", "end inside a sample",
@@ -251,6 +252,7 @@ fn meet_byte(receiver: &Receiver, byte: u8, met: &mut Vec<String>) {
             Ok(_) if pulses as i64 * session.settings.tick as i64 == 100_000 => met.push("m 100,000".into()),
             Ok(_) if byte != session.mode => met.push("mode changed at standstill".into()),
             Ok(_) => {}
+            Err(11) => met.push(format!("refused 11 {} pulses", if pulses == 0 { "without" } else { "with" })),
             Err(number) => met.push(format!("refused {number}")),
         }
     }

@@ -132,6 +132,13 @@ fn samples(checks: &mut Checks) {
         ("0000000C0106 03E9 000000 01", Some((11, 10))), ("0000000C0106 03E9 000000 02", Some((11, 10))),
         ("0000000C0106 0001 000000 02", Some((11, 11))), ("0000000C0106 0000 000000 02", None),
     ]);
+    // "while not at standstill" (02 b): one pulse, then zeros, the tenth of them or the ninth in BTS.
+    let nine = "000000000001".repeat(9);
+    faults(checks, &[
+        (&format!("000000480106 000100000001 {nine} 0000000000 02"), None),
+        (&format!("000000420106 000100000001 {} 0000000000 02", &nine[12..]), Some((65, 11))),
+        ("000000120106 000100000001 0000 000000 02", Some((17, 11))), ("000000120106 000100000001 0000 000000", None),
+    ]);
     checks.equal("FFFF, the end", said(CARD_A, "0000000C0106FFFF/."), "open\nrefused 14\n".into());
     checks.equal("FFFF, FF, the end", said(CARD_A, "0000000C0106FFFFFF/."), "refused 9\nrefused 9\n".into());
     // At each place of a sample, at the line's first and at its second sample, on every byte that there is.

@@ -2,6 +2,7 @@
 
 use crate::card;
 use crate::desk::{Answer, Main, Reminder, Sample, Session, BTS};
+use crate::stand::Meter;
 use std::collections::BTreeMap;
 use std::io::Write;
 
@@ -45,6 +46,15 @@ pub fn recorded(train: u8, samples: &[Sample]) -> Vec<u8> {
 /// The card (highest 2), then "a ride 14, 7, its samples". Calls back with each accepted sample's session and answer;
 /// gives the refusal that ended the ride, if any.
 pub fn ride(card: &[u8], bytes: &[u8], mut each: impl FnMut(&Session, Answer)) -> Option<u8> {
+    each_sample(card, bytes, |session, _, result| {
+        if let Ok(answer) = result {
+            each(session, answer);
+        }
+    })
+}
+
+/// The same, called back with the session behind each sample, the sample, and its answer or refusal.
+fn each_sample(card: &[u8], bytes: &[u8], mut each: impl FnMut(&Session, Sample, Result<Answer, u8>)) -> Option<u8> {
     let settings = match card::read(2, card) {
         Ok(settings) => settings,
         Err(refusal) => return Some(refusal.number),
@@ -58,9 +68,10 @@ pub fn ride(card: &[u8], bytes: &[u8], mut each: impl FnMut(&Session, Answer)) -
         Err(refusal) => return Some(refusal.number),
     };
     for sample in recording.samples {
-        match session.sample(sample) {
-            Ok(answer) => each(&session, answer),
-            Err(number) => return Some(number),
+        let result = session.sample(sample);
+        each(&session, sample, result);
+        if let Err(number) = result {
+            return Some(number);
         }
     }
     None
@@ -88,13 +99,18 @@ pub fn print(card: &[u8], bytes: &[u8], whole: bool, out: &mut impl Write) -> st
 }
 
 /// What a ride met, by key. "arose" counts samples in which a cause arose, "stood" samples in which it began to stand;
-/// "steps" counts samples with a standing limit of that many steps.
+/// "steps" counts samples with a standing limit of that many steps. The keys of standstill are stand.rs's.
 pub fn cover(card: &[u8], bytes: &[u8]) -> BTreeMap<String, u64> {
     let mut counts: BTreeMap<String, u64> = BTreeMap::new();
     let mut last_code = 0;
     let mut last_cause = 0;
+    let mut meter = Meter::new();
     let mut meets = |key: String| *counts.entry(key).or_insert(0) += 1;
-    let end = ride(card, bytes, |session, answer| {
+    let end = each_sample(card, bytes, |session, sample, result| {
+        let mut met = Vec::new();
+        meter.meet(session, sample, result, &mut met);
+        met.into_iter().for_each(&mut meets);
+        let Ok(answer) = result else { return };
         meets("samples".into());
         for cause in 1..=5 {
             if session.arisen.contains(&cause) {

@@ -2,7 +2,7 @@
 
 use crate::card::Settings;
 use crate::damage;
-use crate::desk::{train_speed, Main, Reminder, Sample, Session, Window, METRE};
+use crate::desk::{train_speed, Main, Reminder, Sample, Session, Window, METRE, STANDING};
 use crate::make::{card_bytes, good_settings, Rng};
 use crate::ride::recorded;
 use crate::windows::waits_for;
@@ -11,6 +11,8 @@ use crate::windows::waits_for;
 #[derive(Clone, Copy)]
 pub enum Pace {
     Stand,
+    /// One pulse behind that many samples without, as with a long tick at 1 km/h.
+    Creep(i64),
     /// Around 5 and 40 km/h.
     Crawl,
     /// That many hundredths of km/h under S.
@@ -37,6 +39,12 @@ pub struct Driver {
     care: Care,
     pub pace: Pace,
     pub pace_left: i64,
+    /// How a braked train is held: it stands, or creeps for a while.
+    held: Pace,
+    /// The count, that sample included, at which the mode is to change; 0 is one with a pulse.
+    pub mode_at: Option<i64>,
+    /// The sample from which a ride of kind stand is after its last mode change, maybe one that is refused.
+    last_try: usize,
     pub goal: Goal,
     pub goal_left: i64,
     pub next_beacon: i64,
@@ -67,11 +75,14 @@ pub fn make_ride(kind: &str, seed: u64, samples: u64) -> Option<(Vec<u8>, Vec<u8
 /// A good card, sometimes with garbage behind it, and the session it opens.
 pub fn fresh(rng: &mut Rng, kind: &str) -> (Vec<u8>, Session) {
     let (mut version, mut settings) = good_settings(rng);
-    if kind == "long" && rng.chance(60) {
+    if kind == "long" && rng.chance(75) {
         version = 2;
         settings.functions = 15;
         settings.x = rng.pick(&[2, 3, 20, 51, 120, 200]);
         settings.y = rng.pick(&[3, 40, 100, 500, 2000]);
+    }
+    if kind == "stand" && rng.chance(40) {
+        settings.tick = 1000;
     }
     let mut card = card_bytes(rng, version, &settings);
     if rng.chance(10) {
@@ -87,14 +98,19 @@ pub fn train_for(rng: &mut Rng, settings: &Settings) -> u8 {
     if rng.chance(40) { allowed[allowed.len() - 1] } else { rng.pick(&allowed) }
 }
 
-pub fn run(rng: Rng, session: Session, kind: &str, samples: usize) -> Option<Vec<Sample>> {
+/// Most rides move soon; some stand at first, and some change the mode in their first sample.
+pub fn run(mut rng: Rng, session: Session, kind: &str, samples: usize) -> Option<Vec<Sample>> {
     let care = match kind {
         "answers" => Care { asleep: 15, at_an_end: 40, wrong: 15 },
         _ => Care { asleep: 4, at_an_end: 6, wrong: 4 },
     };
+    let (stands, changes) = if kind == "stand" { (40, 35) } else { (20, 8) };
+    let pace_left = if rng.chance(stands) { rng.within(10, 60) } else { 3 };
+    let mode_at = if rng.chance(changes) { Some(STANDING) } else { None };
+    let last_try = rng.within(2, (samples as i64 - 15).max(4)) as usize;
     let mut driver = Driver {
-        rng, session, samples: Vec::new(), presses: Vec::new(), care, pace: Pace::Stand, pace_left: 3,
-        goal: Goal::Signals, goal_left: 100, next_beacon: 5,
+        rng, session, samples: Vec::new(), presses: Vec::new(), care, pace: Pace::Stand, pace_left, held: Pace::Stand,
+        mode_at, last_try, goal: Goal::Signals, goal_left: 100, next_beacon: 5,
     };
     while driver.samples.len() < samples.min(10_000) {
         let accepted = match kind {
@@ -102,6 +118,7 @@ pub fn run(rng: Rng, session: Session, kind: &str, samples: usize) -> Option<Vec
             "answers" => driver.answers_sample(),
             "drive" => driver.drive_sample(),
             "long" => driver.long_sample(),
+            "stand" => driver.stand_sample(),
             _ => return None,
         };
         if !accepted {
@@ -123,6 +140,7 @@ impl Driver {
         let allowed = 25 * (s + 500) / 9 / tick;
         let pulses = match pace {
             Pace::Stand => 0,
+            Pace::Creep(zeros) => (self.session.stood >= zeros) as i64,
             Pace::Crawl => self.rng.pick(&[1_388, 1_389, 1_400, 5_000, 11_111, 11_112]) / tick + self.rng.within(0, 1),
             Pace::Under(h) => (25 * (s - h).max(0) / 9 / tick).min(allowed),
             Pace::Edge => allowed,
@@ -133,16 +151,70 @@ impl Driver {
 
     /// Runs the sample on the model and keeps it; false when it is refused, which ends the ride.
     pub fn push(&mut self, sample: Sample) -> bool {
+        let (mode, cause) = (self.session.mode, self.session.cause);
         self.samples.push(sample);
         if self.session.sample(sample).is_err() {
             return false;
+        }
+        if self.session.mode != mode {
+            // Now and then straight back.
+            self.mode_at = if self.rng.chance(20) { Some(STANDING) } else { None };
+        }
+        if cause == 0 && self.session.cause != 0 {
+            let zeros = self.rng.within(1, 11);
+            self.held = self.rng.pick(&[Pace::Stand, Pace::Stand, Pace::Stand, Pace::Creep(zeros)]);
         }
         self.plan();
         true
     }
 
-    /// One sample with this beacon, in this mode: scheduled presses, and the pace held against the S it will meet.
-    pub fn go(&mut self, beacon: u8, mode: u8, more_buttons: u16) -> bool {
+    pub fn at_last_try(&self) -> bool {
+        self.samples.len() == self.last_try
+    }
+
+    /// A mode change as soon as the train stands, or somewhat later.
+    pub fn want_mode(&mut self) {
+        if self.mode_at.is_none() {
+            let later = self.rng.within(STANDING + 1, 30);
+            self.mode_at = Some(self.rng.pick(&[STANDING, STANDING, STANDING + 1, later]));
+        }
+    }
+
+    /// The mode of the next sample, and the pace that a wanted mode change needs. Below ten a count is counted from a
+    /// pulse.
+    pub fn mode_and_pace(&self, pace: Pace) -> (u8, Pace) {
+        let (mode, stood) = (self.session.mode, self.session.stood);
+        match self.mode_at {
+            None => (mode, pace),
+            Some(0) => (3 - mode, Pace::Creep(0)),
+            Some(count) if count < STANDING && stood >= count => (mode, Pace::Creep(0)),
+            Some(count) if stood + 1 < count => (mode, Pace::Stand),
+            Some(_) => (3 - mode, Pace::Stand),
+        }
+    }
+
+    /// On a braked desk rearm is pressed at every count, mostly where it may work, and where a window is about to be
+    /// missed.
+    pub fn press_rearm(&mut self, sample: &mut Sample) {
+        if self.session.cause == 0 {
+            return;
+        }
+        let windows = self.session.main_window.iter().chain(self.session.side_window.iter());
+        let chance = match (self.session.stood_with(sample), windows.map(|window| window.left).min()) {
+            (0, _) => 5,
+            (1..=8, _) => 10,
+            (_, None) => 40,
+            (_, Some(1)) => 80,
+            _ => 20,
+        };
+        if self.rng.chance(chance) {
+            sample.buttons |= 1024;
+        }
+    }
+
+    /// One sample with this beacon: scheduled presses, the mode that is wanted, and the pace held against the S it will
+    /// meet.
+    pub fn go(&mut self, beacon: u8, more_buttons: u16) -> bool {
         let n = self.samples.len();
         let mut buttons = more_buttons;
         for (at, mask) in &self.presses {
@@ -153,12 +225,12 @@ impl Driver {
         self.presses.retain(|(at, _)| *at > n);
         let mut pace = self.pace;
         if self.session.cause != 0 && !matches!(pace, Pace::Reckless(_)) {
-            pace = Pace::Stand;
-            buttons |= if self.rng.chance(40) { 1024 } else { 0 };
+            pace = self.held;
+            if self.rng.chance(4) {
+                self.held = Pace::Stand;
+            }
         }
-        if mode != self.session.mode {
-            pace = Pace::Stand;
-        }
+        let (mode, pace) = self.mode_and_pace(pace);
         let s = self.session.s;
         let mut sample = Sample { pulses: self.pulses(pace, s), beacon, buttons, mode };
         let mut trial = self.session.clone();
@@ -168,12 +240,13 @@ impl Driver {
                 sample.buttons |= 128;
             }
         }
-        if !matches!(pace, Pace::Stand) {
+        if !matches!(pace, Pace::Stand | Pace::Creep(_)) {
             self.aim(&mut sample);
         }
         if matches!(pace, Pace::Edge) && self.rng.within(0, 299) == 0 && (sample.pulses as i64 + 1) * self.tick() <= 100_000 {
             sample.pulses += 1;
         }
+        self.press_rearm(&mut sample);
         self.push(sample)
     }
 
