@@ -61,9 +61,10 @@ pub fn make_line(seed: u64) -> (Vec<u8>, Vec<u8>) {
 fn line(rng: &mut Rng, kind: Kind) -> Line {
     let (card, session) = fresh(rng, "pieces");
     let (train, tick, vmax) = (session.train, session.settings.tick, session.settings.vmax);
-    let most = rng.pick(&[1, 2, 3, 8, 24]);
-    let n = if kind == Kind::NoSamples { 0 } else { rng.within(1, most) };
     let ride = rng.pick(&["random", "answers", "drive", "stand"]);
+    // Ten samples of standing need room.
+    let most = if ride == "stand" { 24 } else { rng.pick(&[1, 2, 3, 8, 24]) };
+    let n = if kind == Kind::NoSamples { 0 } else { rng.within(1, most) };
     let seed = rng.next();
     let samples = run(Rng::new(ride, seed), session, ride, n as usize).unwrap();
     let bytes = recorded(train, &samples);
@@ -204,12 +205,7 @@ impl Line {
                 0 => sample.beacon = rng.pick(&[11, 12]),
                 1 => sample.buttons = rng.pick(&[0x07ff, 0x0700, 0x0800, 0x08ff]),
                 2 => sample.mode = rng.pick(&[0, 3]),
-                3 => {
-                    sample.mode = rng.pick(&[1, 2]);
-                    if rng.chance(50) {
-                        sample.pulses = 0;
-                    }
-                }
+                3 => sample.mode = rng.pick(&[1, 2]),
                 4 => sample.pulses = 0xffff,
                 5 => {
                     sample.pulses = 0xffff;
