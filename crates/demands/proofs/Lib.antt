@@ -28,3 +28,4 @@ pub mod LazyCards
 pub mod LazyRides
 pub mod LazyLines
 pub mod LazyPrints
+pub mod LazyCounts

@@ -1,5 +1,5 @@
 -- Request b holds: the count along a list of samples, and what standstill comes to.
-use Prim.Native.Nat.{ℕ, zero, suc, _+_, _*_, min, _≤_, _<_}
+use Prim.Native.Nat.{ℕ, _+_, _*_, min, _≤_, _<_}
 use native.Mathlib.Nat.{zero-add}
 use native.Mathlib.Omega.{arith}
 use mathlib.Core.Bool.{Bool, true, false}
@@ -9,7 +9,6 @@ use mathlib.Core.Path.{_≡_, refl, sym, ap, _∙_}
 use lib.Dec.{eqb}
 use lib.ListN.{length}
 use borrow.Author.Tests.{eqb-true, eqb-false, ne-eqb}
-use Rattle.leaf.specs.Choosing.{pick}
 use Rattle.leaf.specs.Numbers.{bitOf}
 use Rattle.leaf.specs.Buttons.{rearmButton}
 use Rattle.leaf.specs.Answers.{given}
@@ -20,9 +19,8 @@ use Rattle.step.specs.declared.Answer.{Answer as Told}
 use Rattle.session.specs.declared.Sample.{Sample}
 use Rattle.session.specs.declared.Session.{Session}
 use Rattle.session.specs.declared.Sampled.{Sampled}
-use Rattle.session.specs.declared.Outcome.{Outcome}
 use Rattle.session.specs.declared.Outcome.the-variants.{Answered, Refused}
-use Rattle.session.specs.Session.{freshSession, openSession, refusedBy, carried, stepped, ranOf, sampleOf}
+use Rattle.session.specs.Session.{openSession, refusedBy, carried, stepped, ranOf, sampleOf}
 use Rattle.session.specs.Runs.{accepted, after}
 use Rattle.session.proofs.Opening.{opening-fresh}
 use Rattle.session.proofs.Runs.{accepted-runs, refused-stays}
@@ -37,24 +35,21 @@ use Rattle.laws.proofs.Inside.{inside-laws}
 use Rattle.demands.specs.Demand1.{refusalBy}
 use Rattle.demands.specs.Standing.{keptIf, acceptedOf, NoPulses, StoodFor, countOf, Still, Braked, NoCause, Pressed, StandstillLaws, Standing, StandingExamples}
 use Rattle.demands.specs.Standing as paper
+use Rattle.demands.specs.Lazy.{countedOn}
 use Rattle.demands.proofs.Computes.{definitions}
 
 -- ---- the count along accepted samples
 
-abbrev along : ℕ → List Sample → ℕ
-along n [] = n
-along n (x ∷ xs) = along (stoodAfter (x .pulses) n) xs
-
-along-append : (n : ℕ) (xs ys : List Sample) → along n (xs ++ ys) ≡ along (along n xs) ys
+along-append : (n : ℕ) (xs ys : List Sample) → countedOn n (xs ++ ys) ≡ countedOn (countedOn n xs) ys
 along-append n [] ys = refl
 along-append n (x ∷ xs) ys = along-append (stoodAfter (x .pulses) n) xs ys
 
 -- without pulses it goes on, and stops at 30,000
-along-still : (n : ℕ) (xs : List Sample) → n ≤ 30000 → NoPulses xs → along n xs ≡ min 30000 (n + length xs)
+along-still : (n : ℕ) (xs : List Sample) → n ≤ 30000 → NoPulses xs → countedOn n xs ≡ min 30000 (n + length xs)
 unfolding stoodAfter
 along-still n [] low still = omega arith
 along-still n (x ∷ xs) low still =
-    ap (λ (p : ℕ). along (stoodAfter p n) xs) (still .0)
+    ap (λ (p : ℕ). countedOn (stoodAfter p n) xs) (still .0)
     ∙ (let next = along-still (min (n + 1) 30000) xs (omega arith) (still .1) in omega arith)
 
 -- a sample with pulses makes it 0
@@ -62,10 +57,10 @@ moved-zero : (pulses n : ℕ) → 1 ≤ pulses → stoodAfter pulses n ≡ 0
 unfolding stoodAfter
 moved-zero pulses n h = rw (ne-eqb pulses 0 (λ z. omega arith))
 
-along-as : (xs : List Sample) (n : ℕ) → StoodFor xs n → along 10 xs ≡ min 30000 n
+pub along-as : (xs : List Sample) (n : ℕ) → StoodFor xs n → countedOn 10 xs ≡ min 30000 n
 along-as xs n (paper.StoodFor.since before last behind e moved still) =
-    ap (along 10) e ∙ along-append 10 before (last ∷ behind)
-    ∙ ap (λ (k : ℕ). along k behind) (moved-zero (last .pulses) (along 10 before) moved)
+    ap (countedOn 10) e ∙ along-append 10 before (last ∷ behind)
+    ∙ ap (λ (k : ℕ). countedOn k behind) (moved-zero (last .pulses) (countedOn 10 before) moved)
     ∙ along-still 0 behind (omega arith) still ∙ ap (min 30000) (zero-add (length behind))
 along-as xs n (paper.StoodFor.never-moved still) = along-still 10 xs (omega arith) still
 
@@ -92,23 +87,23 @@ module _ (s : Session) (x : Sample) where
       ∙ brake-laws (s .settings) (topOf s) (carried s x) (s .desk) .stood-then
 
 -- a list of samples, accepted or refused
-count-along : (s : Session) (xs : List Sample) → countOf (after s xs) ≡ along (countOf s) (acceptedOf s xs)
+count-along : (s : Session) (xs : List Sample) → countOf (after s xs) ≡ countedOn (countOf s) (acceptedOf s xs)
 unfolding after acceptedOf
 count-along s [] = refl
 count-along s (x ∷ xs) = count-along (sampleOf s x .session) xs ∙ cases (accepted s x) refl
   where
     cases : (t : Bool) → accepted s x ≡ t
-        → along (countOf (sampleOf s x .session)) (acceptedOf (sampleOf s x .session) xs) ≡ along (countOf s) (keptIf t x (acceptedOf (sampleOf s x .session) xs))
-    cases true e = ap (λ (n : ℕ). along n (acceptedOf (sampleOf s x .session) xs)) (count-after s x e)
+        → countedOn (countOf (sampleOf s x .session)) (acceptedOf (sampleOf s x .session) xs) ≡ countedOn (countOf s) (keptIf t x (acceptedOf (sampleOf s x .session) xs))
+    cases true e = ap (λ (n : ℕ). countedOn n (acceptedOf (sampleOf s x .session) xs)) (count-after s x e)
     cases false e =
-        ap (λ (n : ℕ). along n (acceptedOf (sampleOf s x .session) xs))
+        ap (λ (n : ℕ). countedOn n (acceptedOf (sampleOf s x .session) xs))
         (ap (λ (r : Sampled). countOf (r .session)) (refused-stays s x e))
 
 count : (settings : Settings) (train : ℕ) (s : Session) (xs : List Sample) (n : ℕ) → openSession settings train ≡ given s
     → StoodFor (acceptedOf s xs) n → countOf (after s xs) ≡ min 30000 n
 count settings train s xs n h stood =
     count-along s xs
-    ∙ ap (λ (k : ℕ). along k (acceptedOf s xs)) (ap countOf (opening-fresh settings train s h))
+    ∙ ap (λ (k : ℕ). countedOn k (acceptedOf s xs)) (ap countOf (opening-fresh settings train s h))
     ∙ along-as (acceptedOf s xs) n stood
 
 -- ---- standstill

@@ -1,5 +1,5 @@
 -- Lazy programs, by name. Of each: a statement that reads much like ours and lets it pass, and that ours does not.
-use Prim.Native.Nat.{ℕ, _+_, _*_, _≤_, _<_}
+use Prim.Native.Nat.{ℕ, _+_, _*_, min, _≤_, _<_}
 use mathlib.Core.Bool.{Bool, true, _&&_, not}
 use mathlib.Core.List.{List, [], _∷_, _++_, map}
 use mathlib.Core.Path.{_≡_}
@@ -14,6 +14,7 @@ use Rattle.card.specs.Ranges.{checksOf, faultOf}
 use Rattle.card.specs.Plain.{CardMet, WriteMet, ReadAs, WrittenAs}
 use Rattle.card.specs.Reading.{settingsOf, cardChecks, readCard}
 use Rattle.card.specs.Writing.{recordChecks, writeCard, written}
+use Rattle.desk.specs.Brake.{stoodAfter}
 use Rattle.step.specs.declared.Answer.{Answer as Told}
 use Rattle.session.specs.declared.Sample.{Sample}
 use Rattle.session.specs.declared.Session.{Session}
@@ -21,7 +22,7 @@ use Rattle.session.specs.declared.Sampled.{Sampled}
 use Rattle.session.specs.declared.Outcome.{Outcome}
 use Rattle.session.specs.declared.Outcome.the-variants.{Answered, Refused}
 use Rattle.session.specs.Session.{openSession, sampleOf, outcomeOf}
-use Rattle.session.specs.Runs.{outcomes}
+use Rattle.session.specs.Runs.{after, outcomes, allAccepted}
 use Rattle.rides.specs.Recording.{goodRecording, RecordingMet, samplesIn, trainOf, placeOf, firstSamples, samplesOf}
 use Rattle.rides.specs.Ride.{freshRide, startRide, shownOf, shownBy, wholeRide}
 use Rattle.receiver.specs.Receiver.{endOf}
@@ -32,6 +33,7 @@ use Rattle.demands.specs.Demand1.{Exactly, RiddenAs}
 use Rattle.demands.specs.Demand3.{Printer, SilentPrint, VersionsPrint, FunctionsPrint}
 use Rattle.demands.specs.Pieces.{afterBytes, shownBytes, Going, AllBytes, asShown, Due, PartAs}
 use Rattle.demands.specs.ShutOut.{Logic, document01, Equals, OneSpeed, Repeats}
+use Rattle.demands.specs.Standing.{acceptedOf, StoodFor, countOf}
 
 -- ---- logics
 
@@ -237,6 +239,35 @@ pub record LinesOut : Type 0 where
   pub collects-out : ShowsAtOnce collects → ⊥
   pub waits-passes : ShowsWhole waits × ShowsAtOnce waits
   pub waits-out : RefusesAtOnce waits → ⊥
+
+-- ---- counts of samples without pulses, 02 b
+
+-- what counts, over any samples from an opened session on
+abbrev pub Counter : Type 0
+Counter = Session → List Sample → ℕ
+
+-- What is said of ours, of any: the lesser of 30,000 and the number of accepted samples running without pulses, whatever was refused.
+abbrev pub Counts : Counter → Type 0
+Counts f = (settings : Settings) (train : ℕ) (s : Session) (xs : List Sample) (n : ℕ) → openSession settings train ≡ given s
+    → StoodFor (acceptedOf s xs) n → f s xs ≡ min 30000 n
+
+-- A statement of samples that are all accepted.
+abbrev pub CountsAccepted : Counter → Type 0
+CountsAccepted f = (settings : Settings) (train : ℕ) (s : Session) (xs : List Sample) (n : ℕ) → openSession settings train ≡ given s
+    → allAccepted s xs ≡ true → StoodFor xs n → f s xs ≡ min 30000 n
+
+-- one that heeds refused samples as if they were accepted
+abbrev pub countedOn : ℕ → List Sample → ℕ
+countedOn n [] = n
+countedOn n (x ∷ xs) = countedOn (stoodAfter (x .pulses) n) xs
+
+abbrev pub heedsRefused : Counter
+heedsRefused s xs = countedOn 10 xs
+
+pub record CountsOut : Type 0 where
+  pub ours-counts : Counts (λ s xs. countOf (after s xs))
+  pub heeds-passes : CountsAccepted heedsRefused
+  pub heeds-out : Counts heedsRefused → ⊥
 
 -- ---- printers
 
