@@ -1,8 +1,8 @@
 -- "Lamps, bits as buttons": which lamp lights a bit of the answer's mask.
-use Prim.Native.Nat.{ℕ, zero, suc, _^_, _/_, _%_, _<_}
+use Prim.Native.Nat.{ℕ, zero, suc, _^_, _/_, _%_, _≤_, _<_}
 use native.Mathlib.Omega.{arith}
 use native.Mathlib.Nat.{mod-lt, zero-lt-suc}
-use mathlib.Core.Path.{_≡_, refl, ap, _∙_}
+use mathlib.Core.Path.{_≡_, refl, sym, ap, _∙_}
 use mathlib.Core.Bool.{Bool, true, false, _&&_, _||_, not}
 use lib.Dec.{leb, eqb}
 use lib.Bits.{bitOr, or-shr, or-mod}
@@ -14,7 +14,9 @@ use Rattle.signals.specs.declared.window.Waits.the-variants.{Nothing, One, Two,
 use Rattle.signals.specs.Windows.{zonePress, waitsFor}
 use Rattle.signals.specs.MainControl.{increaseLit}
 use Rattle.signals.specs.Stop.{isLit}
+use Rattle.desk.specs.declared.brake.Brake.{Brake}
 use Rattle.desk.specs.declared.state.Desk.{Desk}
+use Rattle.desk.specs.State.{withBrake}
 use Rattle.step.specs.Brake.{lampIf, windowLamps, controlLamps, lampsOf}
 
 -- ---- bit k of two masks put together is the one's or the other's
@@ -83,3 +85,37 @@ control-bit still d =
 pub lamp-rearm : (removable still : Bool) (d : Desk) → bitOf (lampsOf removable still d) rearmButton ≡ (still && not (eqb (d .brake .cause) 0))
 unfolding lampsOf
 lamp-rearm removable still d = or-as (window-dark d) (or-as (lamp-dark limitButton refl removable) (control-bit still d)) .is
+
+-- ---- lamps 0 to 9
+
+-- rearm's lamp lights none of their bits
+rearm-dark : (k : ℕ) → k ≤ 9 → bitOf rearmButton (2 ^ k) ≡ bitOf 0 (2 ^ k)
+rearm-dark zero h = refl
+rearm-dark (suc zero) h = refl
+rearm-dark (suc (suc zero)) h = refl
+rearm-dark (suc (suc (suc zero))) h = refl
+rearm-dark (suc (suc (suc (suc zero)))) h = refl
+rearm-dark (suc (suc (suc (suc (suc zero))))) h = refl
+rearm-dark (suc (suc (suc (suc (suc (suc zero)))))) h = refl
+rearm-dark (suc (suc (suc (suc (suc (suc (suc zero))))))) h = refl
+rearm-dark (suc (suc (suc (suc (suc (suc (suc (suc zero)))))))) h = refl
+rearm-dark (suc (suc (suc (suc (suc (suc (suc (suc (suc zero))))))))) h = refl
+rearm-dark (suc (suc (suc (suc (suc (suc (suc (suc (suc (suc k)))))))))) h = absurd (omega arith)
+
+-- bit k of a mask put together with another, where the other's bit k is the same
+or-same : (k a b c : ℕ) → bitOf b (2 ^ k) ≡ bitOf c (2 ^ k) → bitOf (bitOr a b) (2 ^ k) ≡ bitOf (bitOr a c) (2 ^ k)
+or-same k a b c h = or-bit k a b ∙ ap (λ (t : Bool). bitOf a (2 ^ k) || t) h ∙ sym (or-bit k a c)
+
+-- they are lit as in a sample that is not at standstill, whatever the brake is
+pub lamps-low : (k : ℕ) → k ≤ 9 → (removable still : Bool) (b : Brake) (d : Desk)
+    → bitOf (lampsOf removable still (withBrake b d)) (2 ^ k) ≡ bitOf (lampsOf removable false d) (2 ^ k)
+unfolding lampsOf windowLamps controlLamps
+lamps-low k h removable still b d =
+    or-same k (windowLamps d) _ _
+    (or-same k (lampIf removable limitButton) _ _
+    (or-same k (lampIf (d .armed .armed || isLit (d .reminder .phase)) overrideButton) _ _
+    (or-same k (lampIf (increaseLit (d .main)) increaseButton) _ _ (dark (still && not (eqb (b .cause) 0))))))
+  where
+    dark : (lit : Bool) → bitOf (lampIf lit rearmButton) (2 ^ k) ≡ bitOf 0 (2 ^ k)
+    dark true = rearm-dark k h
+    dark false = refl

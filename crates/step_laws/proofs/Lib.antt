@@ -12,3 +12,4 @@ pub mod Unanswered
 pub mod Missed
 pub mod Speed
 pub mod Brake
+pub mod Unseen

@@ -4,3 +4,4 @@ pub mod Windows
 pub mod Unanswered
 pub mod Speed
 pub mod Brake
+pub mod Unseen
