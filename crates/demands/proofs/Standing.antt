@@ -1,5 +1,5 @@
 -- Request b holds: the count along a list of samples, and what standstill comes to.
-use Prim.Native.Nat.{ℕ, _+_, _*_, min, _≤_, _<_}
+use Prim.Native.Nat.{ℕ, _^_, _+_, _*_, min, _≤_, _<_}
 use native.Mathlib.Nat.{zero-add}
 use native.Mathlib.Omega.{arith}
 use mathlib.Core.Bool.{Bool, true, false}
@@ -14,7 +14,9 @@ use Rattle.leaf.specs.Buttons.{rearmButton}
 use Rattle.leaf.specs.Answers.{given}
 use Rattle.leaf.specs.declared.Refusal.the-variants.{Number}
 use Rattle.card.specs.declared.Settings.{Settings}
+use Rattle.desk.specs.declared.state.Desk.{Desk}
 use Rattle.desk.specs.Brake.{stoodAfter}
+use Rattle.desk.specs.State.{withBrake}
 use Rattle.step.specs.declared.Answer.{Answer as Told}
 use Rattle.session.specs.declared.Sample.{Sample}
 use Rattle.session.specs.declared.Session.{Session}
@@ -26,6 +28,7 @@ use Rattle.session.proofs.Opening.{opening-fresh}
 use Rattle.session.proofs.Runs.{accepted-runs, refused-stays}
 use Rattle.step_laws.specs.Brake.{AtStandstill, BrakeLaws}
 use Rattle.step_laws.proofs.Brake.{brake-laws}
+use Rattle.step_laws.proofs.Unseen.{brake-unseen}
 use Rattle.laws.specs.Ranges.{Inside}
 use Rattle.laws.specs.Refusals.{CodesMet, ModeMet, modeOf, Accepted}
 use Rattle.laws.specs.Unanswered.{topOf}
@@ -33,7 +36,7 @@ use Rattle.laws.proofs.Ranges.{inside-only}
 use Rattle.laws.proofs.Refusals.{refusal-laws}
 use Rattle.laws.proofs.Inside.{inside-laws}
 use Rattle.demands.specs.Demand1.{refusalBy}
-use Rattle.demands.specs.Standing.{keptIf, acceptedOf, NoPulses, StoodFor, countOf, Still, Braked, NoCause, Pressed, StandstillLaws, Standing, StandingExamples}
+use Rattle.demands.specs.Standing.{keptIf, acceptedOf, NoPulses, StoodFor, countOf, Still, Braked, NoCause, Pressed, StandstillLaws, withCount, AlikeBut10, Standing, StandingExamples}
 use Rattle.demands.specs.Standing as paper
 use Rattle.demands.specs.Lazy.{countedOn}
 use Rattle.demands.proofs.Computes.{definitions}
@@ -155,9 +158,12 @@ module _ (s : Session) (x : Sample) where
   abbrev laws : BrakeLaws (s .settings) (topOf s) (carried s x) (s .desk)
   laws = brake-laws (s .settings) (topOf s) (carried s x) (s .desk)
 
-  cause-after : Accepted s x → sampleOf s x .session .desk .brake .cause ≡ stepped s (carried s x) .desk .brake .cause
+  desk-after : Accepted s x → sampleOf s x .session .desk ≡ stepped s (carried s x) .desk
   unfolding ranOf
-  cause-after a = ap (λ (r : Sampled). r .session .desk .brake .cause) (ran a)
+  desk-after a = ap (λ (r : Sampled). r .session .desk) (ran a)
+
+  cause-after : Accepted s x → sampleOf s x .session .desk .brake .cause ≡ stepped s (carried s x) .desk .brake .cause
+  cause-after a = ap (λ (d : Desk). d .brake .cause) (desk-after a)
 
   rearmed : Accepted s x → (Braked s × (sampleOf s x .session .desk .brake .cause ≡ 0)) ↔ (Braked s × (Still s x × (Pressed x × NoCause s x)))
   rearmed a = (only, when)
@@ -206,6 +212,23 @@ module _ (s : Session) (x : Sample) where
   standstill-laws : StandstillLaws s x
   standstill-laws = record { refused-11 = refused-11; rearmed = rearmed; lamp-10 = lamp-10; cause-told = cause-told }
 
+-- ---- nothing else
+
+nothing-else : (s : Session) (n : ℕ) (x : Sample) (a b : Told) → sampleOf s x .outcome ≡ Answered a → sampleOf (withCount n s) x .outcome ≡ Answered b
+    → AlikeBut10 s (withCount n s) x a b
+nothing-else s n x a b ea eb =
+    let p = told s x a ea in
+    let q = told (withCount n s) x b eb in
+    let unseen = brake-unseen (s .settings) (topOf s) (carried s x) (s .desk) (withCount n s .desk .brake) in
+    record {
+      desk = λ c. ap (withBrake c) (desk-after s x (p .0)) ∙ sym (unseen .desk c) ∙ sym (ap (withBrake c) (desk-after (withCount n s) x (q .0)));
+      speed = ap (λ (r : Told). r .speed) (sym (p .1)) ∙ sym (unseen .speed) ∙ ap (λ (r : Told). r .speed) (q .1);
+      icon = ap (λ (r : Told). r .icon) (sym (p .1)) ∙ sym (unseen .icon) ∙ ap (λ (r : Told). r .icon) (q .1);
+      limit = ap (λ (r : Told). r .limit) (sym (p .1)) ∙ sym (unseen .limit) ∙ ap (λ (r : Told). r .limit) (q .1);
+      lamps = λ k ten.
+          ap (λ (r : Told). bitOf (r .lamps) (2 ^ k)) (sym (p .1)) ∙ sym (unseen .lamps k ten) ∙ ap (λ (r : Told). bitOf (r .lamps) (2 ^ k)) (q .1);
+    }
+
 -- ---- the ranges
 
 count-inside : (settings : Settings) (train : ℕ) (s : Session) (xs : List Sample) → openSession settings train ≡ given s → countOf (after s xs) ≤ 30000
@@ -216,7 +239,7 @@ count-outside s x high =
     refusal-laws s x .refused-as 8 (refusal-laws s x .refused-8 .1 (λ i. let low = i .desk .brake .stood in omega arith)) (λ z. omega arith)
 
 pub standing : Standing
-standing = record { count = count; counted = counted; standstill = standstill-laws; count-inside = count-inside; count-outside = count-outside }
+standing = record { count = count; counted = counted; standstill = standstill-laws; nothing-else = nothing-else; count-inside = count-inside; count-outside = count-outside }
 
 pub standing-examples : StandingExamples
 unfolding definitions

@@ -5,7 +5,7 @@
 --
 -- Count and standstill are defined in crate `desk` (specs/Brake.antt). Here it is said what the count is, from the samples alone, and what
 -- standstill comes to, in plain facts. (b1 to b8 are 02's readings.)
-use Prim.Native.Nat.{ℕ, _+_, _*_, min, _≤_, _<_}
+use Prim.Native.Nat.{ℕ, _+_, _*_, _^_, min, _≤_, _<_}
 use mathlib.Core.Bool.{Bool, true, false}
 use mathlib.Core.List.{List, [], _∷_, _++_}
 use mathlib.Core.Logic.{_↔_}
@@ -17,12 +17,14 @@ use Rattle.leaf.specs.Buttons.{rearmButton}
 use Rattle.leaf.specs.declared.Refusal.the-variants.{Number}
 use Rattle.card.specs.declared.Settings.{Settings}
 use Rattle.card.specs.CardA.{cardA}
+use Rattle.desk.specs.declared.brake.Brake.{Brake}
+use Rattle.desk.specs.State.{withBrake}
 use Rattle.step.specs.declared.Answer.{Answer as Told}
 use Rattle.session.specs.declared.Sample.{Sample}
 use Rattle.session.specs.declared.Session.{Session}
 use Rattle.session.specs.declared.Outcome.{Outcome}
 use Rattle.session.specs.declared.Outcome.the-variants.{Answered, Refused}
-use Rattle.session.specs.Session.{openSession, carried, stepped, sampleOf}
+use Rattle.session.specs.Session.{withDesk, openSession, carried, stepped, sampleOf}
 use Rattle.session.specs.Runs.{accepted, after}
 use Rattle.laws.specs.Ranges.{Inside}
 use Rattle.laws.specs.Refusals.{CodesMet, modeOf, Accepted}
@@ -87,6 +89,19 @@ pub record StandstillLaws (s : Session) (x : Sample) : Type 0 where
   -- the cause told is the one that stands after the sample
   pub cause-told : (a : Told) → sampleOf s x .outcome ≡ Answered a → sampleOf s x .session .desk .brake .cause ≡ a .cause
 
+-- the session with another count
+abbrev pub withCount : ℕ → Session → Session
+withCount n s = withDesk (withBrake (record { cause = s .desk .brake .cause; stood = n }) (s .desk)) s
+
+-- what a sample leaves and is answered with, of two sessions: alike but for brake and cause, and lamp 10
+pub record AlikeBut10 (s t : Session) (x : Sample) (a b : Told) : Type 0 where
+  -- whatever brake is put into both, they are one desk
+  pub desk : (c : Brake) → withBrake c (sampleOf s x .session .desk) ≡ withBrake c (sampleOf t x .session .desk)
+  pub speed : a .speed ≡ b .speed
+  pub icon : a .icon ≡ b .icon
+  pub limit : a .limit ≡ b .limit
+  pub lamps : (k : ℕ) → (k ≡ 10 → ⊥) → bitOf (a .lamps) (2 ^ k) ≡ bitOf (b .lamps) (2 ^ k)
+
 pub record Standing : Type 0 where
   -- 1. The count is the lesser of 30,000 and the number of accepted samples running without pulses, over any list of samples from opening,
   -- accepted or refused; and there is such a number for every list.
@@ -95,6 +110,9 @@ pub record Standing : Type 0 where
   pub counted : (xs : List Sample) → (n : ℕ) × StoodFor xs n
   -- 2. Refusal 11, a rearm that takes effect and lamp 10, each exactly when, of every session and every sample.
   pub standstill : (s : Session) (x : Sample) → StandstillLaws s x
+  -- "Only rearm, lamp 10 and refusal 11 use it." (b6): a session with another count, where both accept the sample.
+  pub nothing-else : (s : Session) (n : ℕ) (x : Sample) (a b : Told) → sampleOf s x .outcome ≡ Answered a → sampleOf (withCount n s) x .outcome ≡ Answered b
+      → AlikeBut10 s (withCount n s) x a b
   -- 3. "every session we make is inside", the count included; one that is handed in with more is refused.
   pub count-inside : (settings : Settings) (train : ℕ) (s : Session) (xs : List Sample) → openSession settings train ≡ given s
       → countOf (after s xs) ≤ 30000

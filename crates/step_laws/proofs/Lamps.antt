@@ -1,10 +1,10 @@
 -- "Lamps, bits as buttons": which lamp lights a bit of the answer's mask.
-use Prim.Native.Nat.{ℕ, zero, suc, _^_, _/_, _%_, _≤_, _<_}
+use Prim.Native.Nat.{ℕ, zero, suc, _^_, _/_, _%_, _<_}
 use native.Mathlib.Omega.{arith}
-use native.Mathlib.Nat.{mod-lt, zero-lt-suc}
-use mathlib.Core.Path.{_≡_, refl, sym, ap, _∙_}
+use native.Mathlib.Nat.{mod-lt, zero-lt-suc, pow-suc, div-eq-of-lt, zero-div}
+use mathlib.Core.Path.{_≡_, refl, sym, ap, _∙_, subst}
 use mathlib.Core.Bool.{Bool, true, false, _&&_, _||_, not}
-use lib.Dec.{leb, eqb}
+use lib.Dec.{leb, eqb, lit<}
 use lib.Bits.{bitOr, or-shr, or-mod}
 use Rattle.leaf.specs.Choosing.{pick}
 use Rattle.leaf.specs.Numbers.{bitOf}
@@ -86,10 +86,15 @@ pub lamp-rearm : (removable still : Bool) (d : Desk) → bitOf (lampsOf removabl
 unfolding lampsOf
 lamp-rearm removable still d = or-as (window-dark d) (or-as (lamp-dark limitButton refl removable) (control-bit still d)) .is
 
--- ---- lamps 0 to 9
+-- ---- all lamps but 10
+
+-- 2 to the k is above 1024 from 2048 on
+past-rearm : (k : ℕ) → rearmButton < 2 ^ (suc (suc (suc (suc (suc (suc (suc (suc (suc (suc (suc k)))))))))))
+past-rearm zero = lit< tt
+past-rearm (suc k) = let h = past-rearm k in subst (λ (n : ℕ). rearmButton < n) (sym (pow-suc 2 (suc (suc (suc (suc (suc (suc (suc (suc (suc (suc (suc k))))))))))))) (omega arith)
 
 -- rearm's lamp lights none of their bits
-rearm-dark : (k : ℕ) → k ≤ 9 → bitOf rearmButton (2 ^ k) ≡ bitOf 0 (2 ^ k)
+rearm-dark : (k : ℕ) → (k ≡ 10 → ⊥) → bitOf rearmButton (2 ^ k) ≡ bitOf 0 (2 ^ k)
 rearm-dark zero h = refl
 rearm-dark (suc zero) h = refl
 rearm-dark (suc (suc zero)) h = refl
@@ -100,17 +105,18 @@ rearm-dark (suc (suc (suc (suc (suc (suc zero)))))) h = refl
 rearm-dark (suc (suc (suc (suc (suc (suc (suc zero))))))) h = refl
 rearm-dark (suc (suc (suc (suc (suc (suc (suc (suc zero)))))))) h = refl
 rearm-dark (suc (suc (suc (suc (suc (suc (suc (suc (suc zero))))))))) h = refl
-rearm-dark (suc (suc (suc (suc (suc (suc (suc (suc (suc (suc k)))))))))) h = absurd (omega arith)
+rearm-dark (suc (suc (suc (suc (suc (suc (suc (suc (suc (suc zero)))))))))) h = absurd (h refl)
+rearm-dark (suc (suc (suc (suc (suc (suc (suc (suc (suc (suc (suc k))))))))))) h = ap (λ (n : ℕ). eqb (n % 2) 1) (div-eq-of-lt (past-rearm k) ∙ sym (zero-div (2 ^ (suc (suc (suc (suc (suc (suc (suc (suc (suc (suc (suc k))))))))))))))
 
 -- bit k of a mask put together with another, where the other's bit k is the same
 or-same : (k a b c : ℕ) → bitOf b (2 ^ k) ≡ bitOf c (2 ^ k) → bitOf (bitOr a b) (2 ^ k) ≡ bitOf (bitOr a c) (2 ^ k)
 or-same k a b c h = or-bit k a b ∙ ap (λ (t : Bool). bitOf a (2 ^ k) || t) h ∙ sym (or-bit k a c)
 
 -- they are lit as in a sample that is not at standstill, whatever the brake is
-pub lamps-low : (k : ℕ) → k ≤ 9 → (removable still : Bool) (b : Brake) (d : Desk)
+pub lamps-else : (k : ℕ) → (k ≡ 10 → ⊥) → (removable still : Bool) (b : Brake) (d : Desk)
     → bitOf (lampsOf removable still (withBrake b d)) (2 ^ k) ≡ bitOf (lampsOf removable false d) (2 ^ k)
 unfolding lampsOf windowLamps controlLamps
-lamps-low k h removable still b d =
+lamps-else k h removable still b d =
     or-same k (windowLamps d) _ _
     (or-same k (lampIf removable limitButton) _ _
     (or-same k (lampIf (d .armed .armed || isLit (d .reminder .phase)) overrideButton) _ _

@@ -1,5 +1,5 @@
 -- No step of a sample before the brake's own looks at the brake.
-use Prim.Native.Nat.{ℕ, _≤_, _^_}
+use Prim.Native.Nat.{ℕ, _^_}
 use mathlib.Core.Path.{_≡_, refl, sym, ap, _∙_}
 use mathlib.Core.Bool.{Bool, true, false, _&&_}
 use lib.Dec.{eqb}
@@ -29,7 +29,7 @@ use Rattle.step.specs.Speed.{crossingTurned, supervisedOf}
 use Rattle.step.specs.Brake.{lowest, braked}
 use Rattle.step.specs.Step.{movedOf, answerOf, judgedOf, stepOf}
 use Rattle.step_laws.specs.Unseen.{BrakeUnseen}
-use Rattle.step_laws.proofs.Lamps.{lamps-low}
+use Rattle.step_laws.proofs.Lamps.{lamps-else}
 
 module _ (c : Brake) where
   -- of a desk with brake c in place of its own f gives what it gives of the desk, with `put` done to that
@@ -304,11 +304,11 @@ module _ (s : Settings) (top : ℕ) (x : Input) (d : Desk) (other : Brake) where
   unfolding stepOf
   judged = ap (λ (t : Turn). judgedOf s top x (t .cause) (t .desk)) (moved-turn other s top x .at d)
 
-  lamps : (k : ℕ) → k ≤ 9 → bitOf (stepOf s top x (withBrake other d) .answer .lamps) (2 ^ k) ≡ bitOf (stepOf s top x d .answer .lamps) (2 ^ k)
+  lamps : (k : ℕ) → (k ≡ 10 → ⊥) → bitOf (stepOf s top x (withBrake other d) .answer .lamps) (2 ^ k) ≡ bitOf (stepOf s top x d .answer .lamps) (2 ^ k)
   unfolding stepOf judgedOf answerOf crossingTurned braked
   lamps k h =
       let turned : Desk = crossingTurned (x .m) (moved .desk) in
-      ap (λ (r : Stepped). bitOf (r .answer .lamps) (2 ^ k)) judged ∙ lamps-low k h _ _ _ turned ∙ sym (lamps-low k h _ _ _ turned)
+      ap (λ (r : Stepped). bitOf (r .answer .lamps) (2 ^ k)) judged ∙ lamps-else k h _ _ _ turned ∙ sym (lamps-else k h _ _ _ turned)
 
   pub brake-unseen : BrakeUnseen s top x d other
   unfolding stepOf judgedOf answerOf crossingTurned supervisedOf braked

@@ -1,7 +1,7 @@
--- Document 02 b): "Rearm, its lamp and the mode change all use it"; "Only rearm, lamp 10 and refusal 11 use it." (b6) No step of a sample
--- looks at the brake, which has the count, before the brake's own: with another brake the desk after the sample differs in its brake alone,
--- and the answer in cause and lamp 10.
-use Prim.Native.Nat.{ℕ, _≤_, _^_}
+-- Document 02 b): "Rearm, its lamp and the mode change all use it", and nothing else does (b6). No step of a sample looks at the brake, which
+-- has the count, before the brake's own: with another brake the desk after the sample differs in its brake alone, and the answer in cause and
+-- lamp 10 alone.
+use Prim.Native.Nat.{ℕ, _^_}
 use mathlib.Core.Path.{_≡_}
 use Rattle.leaf.specs.Numbers.{bitOf}
 use Rattle.card.specs.declared.Settings.{Settings}
@@ -19,6 +19,6 @@ module _ (s : Settings) (top : ℕ) (x : Input) (d : Desk) (other : Brake) where
     pub speed : stepOf s top x (withBrake other d) .answer .speed ≡ stepOf s top x d .answer .speed
     pub icon : stepOf s top x (withBrake other d) .answer .icon ≡ stepOf s top x d .answer .icon
     pub limit : stepOf s top x (withBrake other d) .answer .limit ≡ stepOf s top x d .answer .limit
-    -- the lamps of buttons 0 to 9
-    pub lamps : (k : ℕ) → k ≤ 9
+    -- every bit of the lamps but 10
+    pub lamps : (k : ℕ) → (k ≡ 10 → ⊥)
         → bitOf (stepOf s top x (withBrake other d) .answer .lamps) (2 ^ k) ≡ bitOf (stepOf s top x d .answer .lamps) (2 ^ k)
