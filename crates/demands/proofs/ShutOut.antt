@@ -33,7 +33,7 @@ use Rattle.demands.proofs.Computes.{definitions}
 use Rattle.demands.proofs.Demand1.{demand-1}
 use Rattle.demands.proofs.Lines.{numbered}
 
--- ---- three samples of card A, train type 6: standstill; beacon 7 at 108 km/h, over S; standstill again
+-- ---- three samples of card A, train type 6: one without pulses; beacon 7 at 108 km/h, over S; one without pulses again
 
 abbrev standing : Sample
 standing = conv 0 0 0

@@ -26,7 +26,7 @@ use Rattle.session.specs.Session.{openSession, refusedBy, carried, stepped, ran
 use Rattle.session.specs.Runs.{accepted, after}
 use Rattle.session.proofs.Opening.{opening-fresh}
 use Rattle.session.proofs.Runs.{accepted-runs, refused-stays}
-use Rattle.step_laws.specs.Brake.{AtStandstill, BrakeLaws}
+use Rattle.step_laws.specs.Brake.{BrakeLaws}
 use Rattle.step_laws.proofs.Brake.{brake-laws}
 use Rattle.step_laws.proofs.Unseen.{brake-unseen}
 use Rattle.laws.specs.Ranges.{Inside}
@@ -121,12 +121,6 @@ answer-is : {a b : Told} → Answered a ≡ Answered b → a ≡ b
 answer-is h = cc
 
 module _ (s : Session) (x : Sample) where
-  still-when : Still s x → AtStandstill (x .pulses) (s .desk .brake)
-  still-when h = record { no-pulses = h .0; nine-before = h .1 }
-
-  still-only : AtStandstill (x .pulses) (s .desk .brake) → Still s x
-  still-only h = (h .no-pulses, h .nine-before)
-
   ran : Accepted s x → sampleOf s x ≡ ranOf s x
   ran a = refusal-laws s x .accepted-as (refusal-laws s x .accepted .1 a)
 
@@ -143,11 +137,11 @@ module _ (s : Session) (x : Sample) where
           → Inside s × (CodesMet x × ((x .pulses * s .settings .tick ≤ 100000) × ((x .mode ≡ modeOf s → ⊥) × (Still s x → ⊥))))
       only h =
           let m = refusal-laws s x .refused-11 .0 (number-of (accepted s x) refl h) in
-          (m .0, (m .1 .0, (m .1 .1 .0, ((λ e. m .1 .1 .1 (inl e)), (λ e. m .1 .1 .1 (inr (still-when e)))))))
+          (m .0, (m .1 .0, (m .1 .1 .0, ((λ e. m .1 .1 .1 (inl e)), (λ e. m .1 .1 .1 (inr e))))))
 
       kept : (x .mode ≡ modeOf s → ⊥) → (Still s x → ⊥) → ModeMet s x → ⊥
       kept changed moving (inl e) = changed e
-      kept changed moving (inr e) = moving (still-only e)
+      kept changed moving (inr e) = moving e
 
       when : Inside s × (CodesMet x × ((x .pulses * s .settings .tick ≤ 100000) × ((x .mode ≡ modeOf s → ⊥) × (Still s x → ⊥))))
           → sampleOf s x ≡ refusalBy 11 s
@@ -172,13 +166,13 @@ module _ (s : Session) (x : Sample) where
       only h = (h .0, cases (laws .stands-until (h .0)))
         where
           cases : (stepped s (carried s x) .desk .brake .cause ≡ s .desk .brake .cause)
-              ⊎ ((stepped s (carried s x) .desk .brake .cause ≡ 0) × (AtStandstill (x .pulses) (s .desk .brake) × (Pressed x × NoCause s x)))
+              ⊎ ((stepped s (carried s x) .desk .brake .cause ≡ 0) × (Still s x × (Pressed x × NoCause s x)))
               → Still s x × (Pressed x × NoCause s x)
           cases (inl e) = absurd (h .0 (sym e ∙ sym (cause-after a) ∙ h .1))
-          cases (inr e) = (still-only (e .1 .0), e .1 .1)
+          cases (inr e) = e .1
 
       when : Braked s × (Still s x × (Pressed x × NoCause s x)) → Braked s × (sampleOf s x .session .desk .brake .cause ≡ 0)
-      when h = (h .0, cause-after a ∙ laws .goes-off (still-when (h .1 .0)) (h .1 .1 .0) (h .1 .1 .1))
+      when h = (h .0, cause-after a ∙ laws .goes-off (h .1 .0) (h .1 .1 .0) (h .1 .1 .1))
 
   told : (a : Told) → sampleOf s x .outcome ≡ Answered a → Accepted s x × (stepped s (carried s x) .answer ≡ a)
   unfolding ranOf
@@ -204,10 +198,10 @@ module _ (s : Session) (x : Sample) where
       only : bitOf (a .lamps) rearmButton ≡ true → (a .cause ≡ 0 → ⊥) × Still s x
       only lit =
           let m = laws .lamp-10 .0 (ap (λ (b : Told). bitOf (b .lamps) rearmButton) same ∙ lit) in
-          ((λ z. m .0 (cause ∙ z)), still-only (m .1))
+          ((λ z. m .0 (cause ∙ z)), m .1)
 
       when : (a .cause ≡ 0 → ⊥) × Still s x → bitOf (a .lamps) rearmButton ≡ true
-      when m = ap (λ (b : Told). bitOf (b .lamps) rearmButton) (sym same) ∙ laws .lamp-10 .1 ((λ z. m .0 (sym cause ∙ z)), still-when (m .1))
+      when m = ap (λ (b : Told). bitOf (b .lamps) rearmButton) (sym same) ∙ laws .lamp-10 .1 ((λ z. m .0 (sym cause ∙ z)), m .1)
 
   standstill-laws : StandstillLaws s x
   standstill-laws = record { refused-11 = refused-11; rearmed = rearmed; lamp-10 = lamp-10; cause-told = cause-told }

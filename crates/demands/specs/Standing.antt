@@ -26,6 +26,7 @@ use Rattle.session.specs.declared.Outcome.{Outcome}
 use Rattle.session.specs.declared.Outcome.the-variants.{Answered, Refused}
 use Rattle.session.specs.Session.{withDesk, openSession, carried, stepped, sampleOf}
 use Rattle.session.specs.Runs.{accepted, after}
+use Rattle.step_laws.specs.Brake.{AtStandstill}
 use Rattle.laws.specs.Ranges.{Inside}
 use Rattle.laws.specs.Refusals.{CodesMet, modeOf, Accepted}
 use Rattle.demands.specs.Demand1.{refusalBy}
@@ -62,9 +63,9 @@ countOf s = s .desk .brake .stood
 
 -- ---- standstill, rearm, lamp
 
--- "standstill is ten accepted samples running without pulses, this one included": this one has none, and nine or more before it had none
+-- "standstill is ten accepted samples running without pulses, this one included": pulses 0, and a count of 9 or more before
 abbrev pub Still : Session → Sample → Type 0
-Still s x = (x .pulses ≡ 0) × (9 ≤ countOf s)
+Still s x = AtStandstill (x .pulses) (s .desk .brake)
 
 abbrev pub Braked : Session → Type 0
 Braked s = s .desk .brake .cause ≡ 0 → ⊥

@@ -5,7 +5,7 @@ use mathlib.Core.Path.{_≡_, refl, sym, ap, _∙_}
 use mathlib.Core.Bool.{Bool, true, false, _&&_, not}
 use mathlib.Core.Logic.{_⊎_, inl, inr, _↔_}
 use lib.Dec.{leb, eqb}
-use borrow.Author.Tests.{le-leb, leb-true, eqb-true, eqb-false, ne-eqb}
+use borrow.Author.Tests.{le-leb, leb-true, eqb-true, eqb-false, ne-eqb, not-true}
 use Rattle.leaf.specs.Choosing.{pick, and-split}
 use Rattle.leaf.specs.Numbers.{agedOf, bitOf}
 use Rattle.leaf.specs.Buttons.{rearmButton}
@@ -72,10 +72,6 @@ standstill-as pulses b = (only, when)
         let nine = h .nine-before in
         let ten : standingTime ≤ agedOf (b .stood) = omega arith in
         rw (h .no-pulses, le-leb standingTime (agedOf (b .stood)) ten)
-
-not-true : (t : Bool) → not t ≡ true → t ≡ false
-not-true true h = sym h
-not-true false h = refl
 
 -- ---- of every sample
 
