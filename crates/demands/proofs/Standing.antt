@@ -9,15 +9,17 @@ use mathlib.Core.Path.{_≡_, refl, sym, ap, _∙_}
 use lib.Dec.{eqb}
 use lib.ListN.{length}
 use borrow.Author.Tests.{eqb-true, eqb-false, ne-eqb}
+use Rattle.leaf.specs.Choosing.{and-split}
 use Rattle.leaf.specs.Numbers.{bitOf}
 use Rattle.leaf.specs.Buttons.{rearmButton}
 use Rattle.leaf.specs.Answers.{given}
 use Rattle.leaf.specs.declared.Refusal.the-variants.{Number}
 use Rattle.card.specs.declared.Settings.{Settings}
 use Rattle.desk.specs.declared.state.Desk.{Desk}
-use Rattle.desk.specs.Brake.{stoodAfter}
+use Rattle.desk.specs.Brake.{stoodAfter, standstill}
 use Rattle.desk.specs.State.{withBrake}
 use Rattle.step.specs.declared.Answer.{Answer as Told}
+use Rattle.step.specs.Brake.{standingCause}
 use Rattle.session.specs.declared.Sample.{Sample}
 use Rattle.session.specs.declared.Session.{Session}
 use Rattle.session.specs.declared.Sampled.{Sampled}
@@ -26,7 +28,8 @@ use Rattle.session.specs.Session.{openSession, refusedBy, carried, stepped, ran
 use Rattle.session.specs.Runs.{accepted, after}
 use Rattle.session.proofs.Opening.{opening-fresh}
 use Rattle.session.proofs.Runs.{accepted-runs, refused-stays}
-use Rattle.step_laws.specs.Brake.{BrakeLaws}
+use Rattle.step_laws.specs.Brake.{rearms, BrakeLaws}
+use Rattle.step_laws.proofs.Choosing.{not-so}
 use Rattle.step_laws.proofs.Brake.{brake-laws}
 use Rattle.step_laws.proofs.Unseen.{brake-unseen}
 use Rattle.laws.specs.Ranges.{Inside}
@@ -208,6 +211,14 @@ module _ (s : Session) (x : Sample) where
 
 -- ---- nothing else
 
+-- without rearm the cause told is the first one's, or what arose
+unpressed : (s : Session) (x : Sample) (a : Told) → sampleOf s x .outcome ≡ Answered a → (Pressed x → ⊥)
+    → a .cause ≡ standingCause (s .desk .brake .cause) (stepped s (carried s x) .arose) false
+unpressed s x a h none =
+    sym (cause-told s x a h) ∙ cause-after s x (told s x a h .0) ∙ laws s x .cause-after
+    ∙ ap (standingCause (s .desk .brake .cause) (stepped s (carried s x) .arose))
+    (not-so (rearms (carried s x) (s .desk)) (λ e. none (and-split (standstill (x .pulses) (s .desk .brake)) (bitOf (x .buttons) rearmButton) e .1)))
+
 nothing-else : (s : Session) (n : ℕ) (x : Sample) (a b : Told) → sampleOf s x .outcome ≡ Answered a → sampleOf (withCount n s) x .outcome ≡ Answered b
     → AlikeBut10 s (withCount n s) x a b
 nothing-else s n x a b ea eb =
@@ -219,6 +230,10 @@ nothing-else s n x a b ea eb =
       speed = ap (λ (r : Told). r .speed) (sym (p .1)) ∙ sym (unseen .speed) ∙ ap (λ (r : Told). r .speed) (q .1);
       icon = ap (λ (r : Told). r .icon) (sym (p .1)) ∙ sym (unseen .icon) ∙ ap (λ (r : Told). r .icon) (q .1);
       limit = ap (λ (r : Told). r .limit) (sym (p .1)) ∙ sym (unseen .limit) ∙ ap (λ (r : Told). r .limit) (q .1);
+      cause = λ none.
+          unpressed s x a ea none
+          ∙ ap (λ (arose : ℕ). standingCause (s .desk .brake .cause) arose false) (sym (unseen .arose))
+          ∙ sym (unpressed (withCount n s) x b eb none);
       lamps = λ k ten.
           ap (λ (r : Told). bitOf (r .lamps) (2 ^ k)) (sym (p .1)) ∙ sym (unseen .lamps k ten) ∙ ap (λ (r : Told). bitOf (r .lamps) (2 ^ k)) (q .1);
     }

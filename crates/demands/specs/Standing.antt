@@ -94,13 +94,14 @@ pub record StandstillLaws (s : Session) (x : Sample) : Type 0 where
 abbrev pub withCount : ℕ → Session → Session
 withCount n s = withDesk (withBrake (record { cause = s .desk .brake .cause; stood = n }) (s .desk)) s
 
--- what a sample leaves and is answered with, of two sessions: alike but for brake and cause, and lamp 10
+-- what a sample leaves and is answered with, of two sessions: alike but for the brake's part and lamp 10, and the cause where rearm is pressed
 pub record AlikeBut10 (s t : Session) (x : Sample) (a b : Told) : Type 0 where
   -- whatever brake is put into both, they are one desk
   pub desk : (c : Brake) → withBrake c (sampleOf s x .session .desk) ≡ withBrake c (sampleOf t x .session .desk)
   pub speed : a .speed ≡ b .speed
   pub icon : a .icon ≡ b .icon
   pub limit : a .limit ≡ b .limit
+  pub cause : (Pressed x → ⊥) → a .cause ≡ b .cause
   pub lamps : (k : ℕ) → (k ≡ 10 → ⊥) → bitOf (a .lamps) (2 ^ k) ≡ bitOf (b .lamps) (2 ^ k)
 
 pub record Standing : Type 0 where
