@@ -145,41 +145,44 @@ fn session_refused(session: Session) {
     reads(with_last_code(code, 7), 0, 0);
 }
 
-fn four_still(session: Session) -> Session {
-    let one = reads(session, 0, 0);
-    let two = reads(one, 0, 0);
-    let three = reads(two, 0, 0);
-    reads(three, 0, 0)
+// So many samples in CONV without pulses.
+fn stands(session: Session, samples: u16) -> Session {
+    let mut stood = session;
+    let mut left = samples;
+    while 0 < left {
+        stood = reads(stood, 0, 0);
+        left -= 1;
+    }
+    stood
 }
 
-// A beacon 8 at 36 km/h is cause 4 and sets stop, 40 km/h, with the lamp of increase. Then five samples without pulses, and one that is
-// refused.
-fn five_and_refused(session: Session) -> Session {
+// A beacon 8 at 36 km/h is cause 4 and sets stop, 40 km/h, with the lamp of increase. Then five samples without pulses, one that is refused,
+// so many more without, and one that carries rearm.
+fn run_with_refused(session: Session, more: u16) {
     let braked = reads(session, 100, 8);
-    let one = reads(braked, 0, 0);
-    let five = four_still(one);
-    after(five, 1001, 0, 0, 1)
+    let five = stands(braked, 5);
+    let refused = after(five, 1001, 0, 0, 1);
+    after(stands(refused, more), 0, 0, 1024, 1);
 }
 
-// With four more and the one that carries rearm there are ten: rearmed. With three more there are nine: the brake stays on and lamp 10 dark.
+// Five, four and the last are ten: rearmed. With three they are nine: the brake stays on and lamp 10 dark.
 fn run_unbroken(session: Session) {
     say(b"a refused sample neither counts among ten without pulses nor breaks their run\n");
-    let nine = four_still(five_and_refused(session));
-    after(nine, 0, 0, 1024, 1);
+    run_with_refused(session, 4);
     say(b"and with nine it is not standstill\n");
-    let six = reads(five_and_refused(session), 0, 0);
-    let seven = reads(six, 0, 0);
-    let eight = reads(seven, 0, 0);
-    after(eight, 0, 0, 1024, 1);
+    run_with_refused(session, 3);
 }
 
-// Nine before are enough for the mode to change, eight are not. The count stops at 30,000, which is standstill still; more is out of range.
-fn count_handed_in(session: Session) {
-    say(
-        b"a session with a count of 9 changes its mode, with 8 it does not; it may have 30,000 and no more\n",
-    );
+// Nine before are enough for the mode to change, eight are not.
+fn mode_by_count(session: Session) {
+    say(b"a session with a count of 9 changes its mode, with 8 it does not\n");
     after(with_stood(session, 9), 0, 0, 0, 2);
     after(with_stood(session, 8), 0, 0, 0, 2);
+}
+
+// The count stops at 30,000, which is standstill still; more is out of range.
+fn count_top(session: Session) {
+    say(b"a count may be 30,000, where it stops, and no more\n");
     let full = reads(with_stood(session, 30000), 0, 0);
     after(full, 0, 0, 0, 2);
     reads(with_stood(session, 30001), 0, 0);
@@ -240,9 +243,13 @@ fn rides(session: Session) {
     mode_refused(session);
     sample_refused(session);
     session_refused(session);
-    run_unbroken(session);
-    count_handed_in(session);
     zone(session);
+}
+
+fn standing(session: Session) {
+    run_unbroken(session);
+    mode_by_count(session);
+    count_top(session);
 }
 
 // The session that card K opens.
@@ -258,7 +265,10 @@ fn opened() -> Opened {
 fn main() {
     let start = opened();
     match start {
-        Opened::Ready(session) => rides(session),
+        Opened::Ready(session) => {
+            rides(session);
+            standing(session);
+        }
         Opened::Refused(why) => refusal(why),
     }
     highest_1();
