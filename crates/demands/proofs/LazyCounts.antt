@@ -8,11 +8,11 @@ use Rattle.card.specs.CardA.{cardA}
 use Rattle.session.specs.declared.Sample.{Sample}
 use Rattle.session.specs.Session.{freshSession}
 use Rattle.demands.specs.Examples.{conv, times}
-use Rattle.demands.specs.Standing.{acceptedOf, StoodFor}
+use Rattle.demands.specs.Standing.{acceptedOf, StoodFor, Counts}
 use Rattle.demands.specs.Standing as paper
-use Rattle.demands.specs.Lazy.{Counts, CountsAccepted, heedsRefused, CountsOut}
+use Rattle.demands.specs.Lazy.{CountsAccepted, heedsRefused, CountsOut}
 use Rattle.demands.proofs.Computes.{definitions}
-use Rattle.demands.proofs.Standing.{along-as, standing}
+use Rattle.demands.proofs.Standing.{along-as}
 
 heeds-passes : CountsAccepted heedsRefused
 heeds-passes settings train s xs n opens all stood = along-as xs n stood
@@ -34,4 +34,4 @@ heeds-out f =
     omega arith
 
 pub counts-out : CountsOut
-counts-out = record { ours-counts = standing .count; heeds-passes = heeds-passes; heeds-out = heeds-out }
+counts-out = record { heeds-passes = heeds-passes; heeds-out = heeds-out }

@@ -39,7 +39,7 @@ use Rattle.laws.proofs.Ranges.{inside-only}
 use Rattle.laws.proofs.Refusals.{refusal-laws}
 use Rattle.laws.proofs.Inside.{inside-laws}
 use Rattle.demands.specs.Demand1.{refusalBy}
-use Rattle.demands.specs.Standing.{keptIf, acceptedOf, NoPulses, StoodFor, countOf, Still, Braked, NoCause, Pressed, StandstillLaws, withCount, AlikeBut10, Standing, StandingExamples}
+use Rattle.demands.specs.Standing.{keptIf, acceptedOf, NoPulses, StoodFor, countOf, Counts, Still, Braked, NoCause, Pressed, StandstillLaws, withCount, AlikeBut10, Standing, StandingExamples}
 use Rattle.demands.specs.Standing as paper
 use Rattle.demands.specs.Lazy.{countedOn}
 use Rattle.demands.proofs.Computes.{definitions}
@@ -105,8 +105,7 @@ count-along s (x ∷ xs) = count-along (sampleOf s x .session) xs ∙ cases (acc
         ap (λ (n : ℕ). countedOn n (acceptedOf (sampleOf s x .session) xs))
         (ap (λ (r : Sampled). countOf (r .session)) (refused-stays s x e))
 
-count : (settings : Settings) (train : ℕ) (s : Session) (xs : List Sample) (n : ℕ) → openSession settings train ≡ given s
-    → StoodFor (acceptedOf s xs) n → countOf (after s xs) ≡ min 30000 n
+count : Counts (λ s xs. countOf (after s xs))
 count settings train s xs n h stood =
     count-along s xs
     ∙ ap (λ (k : ℕ). countedOn k (acceptedOf s xs)) (ap countOf (opening-fresh settings train s h))

@@ -22,7 +22,7 @@ use Rattle.session.specs.declared.Sampled.{Sampled}
 use Rattle.session.specs.declared.Outcome.{Outcome}
 use Rattle.session.specs.declared.Outcome.the-variants.{Answered, Refused}
 use Rattle.session.specs.Session.{openSession, sampleOf, outcomeOf}
-use Rattle.session.specs.Runs.{after, outcomes, allAccepted}
+use Rattle.session.specs.Runs.{outcomes, allAccepted}
 use Rattle.rides.specs.Recording.{goodRecording, RecordingMet, samplesIn, trainOf, placeOf, firstSamples, samplesOf}
 use Rattle.rides.specs.Ride.{freshRide, startRide, shownOf, shownBy, wholeRide}
 use Rattle.receiver.specs.Receiver.{endOf}
@@ -33,7 +33,7 @@ use Rattle.demands.specs.Demand1.{Exactly, RiddenAs}
 use Rattle.demands.specs.Demand3.{Printer, SilentPrint, VersionsPrint, FunctionsPrint}
 use Rattle.demands.specs.Pieces.{afterBytes, shownBytes, Going, AllBytes, asShown, Due, PartAs}
 use Rattle.demands.specs.ShutOut.{Logic, document01, Equals, OneSpeed, Repeats}
-use Rattle.demands.specs.Standing.{acceptedOf, StoodFor, countOf}
+use Rattle.demands.specs.Standing.{StoodFor, Counter, Counts}
 
 -- ---- logics
 
@@ -242,15 +242,6 @@ pub record LinesOut : Type 0 where
 
 -- ---- counts of samples without pulses, 02 b
 
--- what counts, over any samples from an opened session on
-abbrev pub Counter : Type 0
-Counter = Session → List Sample → ℕ
-
--- What is said of ours, of any: the lesser of 30,000 and the number of accepted samples running without pulses, whatever was refused.
-abbrev pub Counts : Counter → Type 0
-Counts f = (settings : Settings) (train : ℕ) (s : Session) (xs : List Sample) (n : ℕ) → openSession settings train ≡ given s
-    → StoodFor (acceptedOf s xs) n → f s xs ≡ min 30000 n
-
 -- A statement of samples that are all accepted.
 abbrev pub CountsAccepted : Counter → Type 0
 CountsAccepted f = (settings : Settings) (train : ℕ) (s : Session) (xs : List Sample) (n : ℕ) → openSession settings train ≡ given s
@@ -265,7 +256,6 @@ abbrev pub heedsRefused : Counter
 heedsRefused s xs = countedOn 10 xs
 
 pub record CountsOut : Type 0 where
-  pub ours-counts : Counts (λ s xs. countOf (after s xs))
   pub heeds-passes : CountsAccepted heedsRefused
   pub heeds-out : Counts heedsRefused → ⊥
 

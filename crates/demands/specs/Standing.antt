@@ -61,6 +61,16 @@ pub data StoodFor (xs : List Sample) : ℕ → Type 0 where
 abbrev pub countOf : Session → ℕ
 countOf s = s .desk .brake .stood
 
+-- what counts, over any samples from an opened session on
+abbrev pub Counter : Type 0
+Counter = Session → List Sample → ℕ
+
+-- it gives the lesser of 30,000 and the number of accepted samples running without pulses, over any list of samples from opening, accepted or
+-- refused
+abbrev pub Counts : Counter → Type 0
+Counts f = (settings : Settings) (train : ℕ) (s : Session) (xs : List Sample) (n : ℕ) → openSession settings train ≡ given s
+    → StoodFor (acceptedOf s xs) n → f s xs ≡ min 30000 n
+
 -- ---- standstill, rearm, lamp
 
 -- "standstill is ten accepted samples running without pulses, this one included": pulses 0, and a count of 9 or more before
@@ -105,10 +115,8 @@ pub record AlikeBut10 (s t : Session) (x : Sample) (a b : Told) : Type 0 where
   pub lamps : (k : ℕ) → (k ≡ 10 → ⊥) → bitOf (a .lamps) (2 ^ k) ≡ bitOf (b .lamps) (2 ^ k)
 
 pub record Standing : Type 0 where
-  -- 1. The count is the lesser of 30,000 and the number of accepted samples running without pulses, over any list of samples from opening,
-  -- accepted or refused; and there is such a number for every list.
-  pub count : (settings : Settings) (train : ℕ) (s : Session) (xs : List Sample) (n : ℕ) → openSession settings train ≡ given s
-      → StoodFor (acceptedOf s xs) n → countOf (after s xs) ≡ min 30000 n
+  -- 1. The session's count is that number, after any list of samples; and there is such a number for every list.
+  pub count : Counts (λ s xs. countOf (after s xs))
   pub counted : (xs : List Sample) → (n : ℕ) × StoodFor xs n
   -- 2. Refusal 11, a rearm that takes effect and lamp 10, each exactly when, of every session and every sample.
   pub standstill : (s : Session) (x : Sample) → StandstillLaws s x

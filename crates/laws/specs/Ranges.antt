@@ -1,6 +1,6 @@
 -- Document 01, "The sample": "Ages count samples from the sample that starts them (age 0) and stop at 30,000; distances stop at 60,000,000.
 -- These, steps 0..8, mode, cause, code and settings in range, and a train type that 7 allows, are the session's ranges"; 02 b: "The session
--- gains a count.".
+-- gains a count."
 -- Here in plain facts, and that a session is inside exactly when they hold.
 use Prim.Native.Nat.{ℕ, _≤_}
 use mathlib.Core.Path.{_≡_}
