@@ -4,7 +4,7 @@ use Prim.Native.Nat.{ℕ}
 use mathlib.Core.Bool.{Bool, true, false, _&&_, _||_, not}
 use lib.Dec.{eqb}
 use Rattle.leaf.specs.Choosing.{pick}
-use Rattle.leaf.specs.Numbers.{within, codeTop}
+use Rattle.leaf.specs.Numbers.{within}
 use Rattle.signals.specs.declared.window.Waits.{Waits}
 use Rattle.signals.specs.declared.window.Waits.the-variants as waits
 use Rattle.signals.specs.declared.control.MainKind.{MainKind}
@@ -20,15 +20,19 @@ use Rattle.desk.specs.declared.clock.Turn.{Turn}
 use Rattle.desk.specs.State.{withCode, withMain, withWindow, withSide, withAlongside, withArmed, withReminder, withCrossing, withOption, takenOver, limitNow}
 use Rattle.desk.specs.Clock.{mainCounts, sideCounts}
 
--- "beacon 0..11": every code but 0 is that of a beacon
+-- "beacon 0..11": every code but 0 is that of a beacon; 02 c: "Code 12 is no beacon"
+abbrev pub beaconTop : ℕ
+beaconTop = 11
+
 abbrev pub isBeacon : ℕ → Bool
-isBeacon code = within 1 codeTop code
+isBeacon code = within 1 beaconTop code
 
 -- "Beacons are not read save function 3's": "BTS reads beacons 4, 9, 10, 11"
 abbrev pub isSide : ℕ → Bool
 isSide code = eqb code 4 || eqb code 9 || eqb code 10 || eqb code 11
 
--- "A beacon is read when its code differs from that of the accepted sample before, of either mode, read or not."
+-- "A beacon is read when its code differs from that of the accepted sample before, of either mode, read or not."; 02 c: the code after 12
+-- "counts as changed"
 unfoldable pub readsOf : ℕ → Bool → Bool → ℕ → Bool
 readsOf code readsInBts bts last = isBeacon code && not (eqb code last) && (not bts || isSide code && readsInBts)
 
@@ -116,7 +120,8 @@ unfoldable pub readIf : Bool → ℕ → Bool → Bool → Desk → Desk
 readIf true code protects zones d = readingOf code protects zones d
 readIf false code protects zones d = d
 
--- the beacon's step: its code is remembered, read or not; "beacon 8 without armed override is cause 4"
+-- the beacon's step: its code is remembered, read or not, "12 becomes the last code in either mode" (c5); "beacon 8 without armed override is
+-- cause 4"
 unfoldable pub beaconTaken : ℕ → Bool → Bool → Bool → Desk → Turn
 beaconTaken code protects zones readsInBts d =
     let reads : Bool = readsOf code readsInBts (d .bts) (d .code) in

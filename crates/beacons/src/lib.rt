@@ -3,7 +3,6 @@ use desk::clock::Turn;
 use desk::clock::count_main;
 use desk::clock::count_side;
 use desk::state::Desk;
-use leaf::CODE_TOP;
 use sides::crossing::CrossingOption;
 use signals::control::Main;
 use signals::control::MainKind;
@@ -18,11 +17,14 @@ use signals::window::ZONE_MISS;
 ghost use mathlib.Core.Path.{_≡_};
 ghost use Rattle.beacons.specs.Beacons.{isBeacon, isSide, readsOf, mainOpened, sideOpened, reading1, readingRow, optionOffered, reading3, reading4, reading7, remindedAfter, stopped, reading8, reading9, readingLimit, readingOf, readIf, beaconTaken};
 
+// The greatest code of a beacon.
+const BEACON_TOP: u8 = 11;
+
 // Is the code that of a beacon.
 fn is_beacon(code: u8) -> bool
     ensures { λ r. ⌜ r ≡ isBeacon code ⌝ }
 {
-    (1 <= code) & (code <= CODE_TOP)
+    (1 <= code) & (code <= BEACON_TOP)
 }
 
 // Is it a beacon that BTS reads where the card has that function.

@@ -1,9 +1,10 @@
--- Document 01, "Controls": the brake and the lamps.
+-- Document 01, "Controls": the brake and the lamps. Document 02 c): the alarm of a quiet pickup.
 use Prim.Native.Nat.{ℕ, min}
 use mathlib.Core.Bool.{Bool, true, false, _&&_, _||_, not}
 use lib.Dec.{eqb}
 use lib.Bits.{bitOr}
 use Rattle.leaf.specs.Choosing.{pick}
+use Rattle.leaf.specs.Numbers.{quietCode}
 use Rattle.leaf.specs.Buttons.{crossingButton, limitButton, overrideButton, increaseButton, rearmButton}
 use Rattle.signals.specs.Windows.{waitsFor}
 use Rattle.signals.specs.MainControl.{increaseLit}
@@ -42,5 +43,13 @@ controlLamps still d =
     (bitOr (lampIf (increaseLit (d .main)) increaseButton) (lampIf (still && not (eqb (d .brake .cause) 0)) rearmButton))
 
 -- "6 when limit is removable"
+unfoldable pub buttonLamps : Bool → Bool → Desk → ℕ
+buttonLamps removable still d = bitOr (windowLamps d) (bitOr (lampIf removable limitButton) (controlLamps still d))
+
+-- 02 c: "Each sample with code 12 lights lamp bit 11, the alarm", "in both modes" (c3): by the desk's code at the sample's end, which is the
+-- sample's own. "No button 11" (c7): it is a lamp alone
+abbrev pub alarmLamp : ℕ
+alarmLamp = 2048
+
 unfoldable pub lampsOf : Bool → Bool → Desk → ℕ
-lampsOf removable still d = bitOr (windowLamps d) (bitOr (lampIf removable limitButton) (controlLamps still d))
+lampsOf removable still d = bitOr (lampIf (eqb (d .code) quietCode) alarmLamp) (buttonLamps removable still d)

@@ -1,9 +1,10 @@
 -- Document 01, "The sample": "Order in a sample: mode; ages and distances advance, endings, reminders and missed windows; buttons, lowest bit
 -- first; beacon; speed; brake." One sample of the desk, on every value; T is top, hundredths of km/h.
 use Prim.Native.Nat.{ℕ, _+_}
-use mathlib.Core.Bool.{Bool, true, false, _&&_}
+use mathlib.Core.Bool.{Bool, _&&_, not}
+use lib.Dec.{eqb}
 use Rattle.leaf.specs.Choosing.{pick}
-use Rattle.leaf.specs.Numbers.{bitOf, exceedsOf}
+use Rattle.leaf.specs.Numbers.{bitOf, exceedsOf, quietCode}
 use Rattle.leaf.specs.Buttons.{rearmButton}
 use Rattle.card.specs.declared.Settings.{Settings}
 use Rattle.card.specs.Card.{protects, zones, reminds, readsInBts}
@@ -40,13 +41,25 @@ answerOf s top m still speed d =
       limit = d .beside .limit .on;
     }
 
--- "Over S + 500 is cause 5 (001 in BTS; house elsewhere)." Then the brake, and the answer as the desk is at the sample's end. 02 b: "Rearm, its
--- lamp and the mode change all use it", standstill.
+-- "Over S + 500 is cause 5 (001 in BTS; house elsewhere)."
+abbrev pub speedCause : ℕ → ℕ → ℕ
+speedCause m speed = pick (exceedsOf m (speed + 500)) 5 0
+
+-- 02 c: "Each sample with code 12 .. outside BTS raises cause 6 as well.": "not only the first" (c2), and "the mode after the mode step decides"
+-- (c4)
+abbrev pub quietCause : ℕ → Bool → ℕ
+quietCause code bts = pick (eqb code quietCode && not bts) 6 0
+
+-- "lowest number within a sample": of what arose in the steps before, of the speed, and of the pickup
+unfoldable pub aroseOf : ℕ → ℕ → ℕ → ℕ → Bool → ℕ
+aroseOf cause m speed code bts = lowest (lowest cause (speedCause m speed)) (quietCause code bts)
+
+-- Speed, then the brake, and the answer as the desk is at the sample's end. 02 b: "Rearm, its lamp and the mode change all use it", standstill.
 unfoldable pub judgedOf : Settings → ℕ → Input → ℕ → Desk → Stepped
 judgedOf s top x cause d =
     let turned : Desk = crossingTurned (x .m) d in
     let speed : ℕ = supervisedOf s top turned in
-    let arose : ℕ = lowest cause (pick (exceedsOf (x .m) (speed + 500)) 5 0) in
+    let arose : ℕ = aroseOf cause (x .m) speed (x .beacon) (turned .bts) in
     let still : Bool = standstill (x .pulses) (turned .brake) in
     let after : Desk = braked arose (still && bitOf (x .buttons) rearmButton) (x .pulses) turned in
     record { desk = after; arose = arose; answer = answerOf s top (x .m) still speed after }

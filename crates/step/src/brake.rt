@@ -1,8 +1,12 @@
 // The last step of a sample: the brake; and the lamps.
 use desk::state::Desk;
+use leaf::QUIET_CODE;
 use leaf::button;
 ghost use mathlib.Core.Path.{_≡_};
-ghost use Rattle.step.specs.Brake.{lowest, standingCause, braked, lampIf, windowLamps, controlLamps, lampsOf};
+ghost use Rattle.step.specs.Brake.{lowest, standingCause, braked, lampIf, windowLamps, controlLamps, buttonLamps, lampsOf};
+
+// The alarm of a quiet pickup, a lamp without a button.
+const ALARM_LAMP: u16 = 2048;
 
 // The lower of two causes, 0 being none.
 pub fn lowest(a: u8, b: u8) -> u8
@@ -65,12 +69,22 @@ fn control_lamps(d: Desk, still: bool) -> u16
     )
 }
 
-// All lamps; `removable` says that the limit may go.
-pub fn lamps_of(d: Desk, removable: bool, still: bool) -> u16
-    ensures { λ r. ⌜ r ≡ lampsOf removable still d ⌝ }
+// The lamps of the buttons; `removable` says that the limit may go.
+fn button_lamps(d: Desk, removable: bool, still: bool) -> u16
+    ensures { λ r. ⌜ r ≡ buttonLamps removable still d ⌝ }
 {
     leaf::either(
         window_lamps(d),
         leaf::either(lamp_if(removable, button::LIMIT), control_lamps(d, still)),
+    )
+}
+
+// All lamps: the alarm of a quiet pickup beside those of the buttons.
+pub fn lamps_of(d: Desk, removable: bool, still: bool) -> u16
+    ensures { λ r. ⌜ r ≡ lampsOf removable still d ⌝ }
+{
+    leaf::either(
+        lamp_if(d.code == QUIET_CODE, ALARM_LAMP),
+        button_lamps(d, removable, still),
     )
 }

@@ -12,13 +12,14 @@ use card::Settings;
 use desk::clock::Turn;
 use desk::clock::begin;
 use desk::state::Desk;
+use leaf::QUIET_CODE;
 use leaf::button;
 use leaf::has_bit;
 use speed::supervised;
 use speed::too_fast;
 use speed::turn_crossing;
 ghost use mathlib.Core.Path.{_≡_};
-ghost use Rattle.step.specs.Step.{movedOf, judgedOf, answerOf, stepOf};
+ghost use Rattle.step.specs.Step.{movedOf, answerOf, aroseOf, judgedOf, stepOf};
 
 // What the desk takes of an accepted sample: speed and travel, pulses, beacon code, buttons, and the mode.
 pub struct Input {
@@ -49,19 +50,20 @@ pub struct Stepped {
 fn moved(d: Desk, settings: Settings, top: u32, x: Input) -> Turn
     ensures { λ r. ⌜ r ≡ movedOf settings top x d ⌝ }
 {
+    let code = x.beacon;
     let functions = card::functions_of(settings.functions);
     let row = settings.limit;
     let begun = begin(d, x.bts, x.m, functions.reminds, settings.x, settings.y);
     let aged = begun.desk;
     // no press, and the code of the sample before: there is nothing to take
-    let quiet = (x.buttons == 0) & (x.beacon == aged.code);
-    if quiet {
+    let idle = (x.buttons == 0) & (code == aged.code);
+    if idle {
         return begun;
     }
     let pressed = take_buttons(aged, x.buttons, x.m, row, top);
     let read = take_beacon(
         pressed,
-        x.beacon,
+        code,
         functions.protects,
         functions.zones,
         functions.reads_in_bts,
@@ -89,14 +91,22 @@ fn answer_at(d: Desk, settings: Settings, top: u32, m: u32, still: bool, speed: 
     }
 }
 
+// The lowest cause of a sample: of those that arose in the steps before it, too fast, and a quiet pickup outside BTS.
+fn arose_at(cause: u8, m: u32, speed: u32, code: u8, bts: bool) -> u8
+    ensures { λ r. ⌜ r ≡ aroseOf cause m speed code bts ⌝ }
+{
+    let fast = leaf::choose8(too_fast(m, speed), 5, 0);
+    let quiet = leaf::choose8((code == QUIET_CODE) & !bts, 6, 0);
+    lowest(lowest(cause, fast), quiet)
+}
+
 // Speed and brake, over what the steps before made.
 fn judged(d: Desk, settings: Settings, top: u32, x: Input, cause: u8) -> Stepped
     ensures { λ r. ⌜ r ≡ judgedOf settings top x cause d ⌝ }
 {
     let turned = turn_crossing(d, x.m);
     let speed = supervised(turned, settings, top);
-    let fast = leaf::choose8(too_fast(x.m, speed), 5, 0);
-    let arose = lowest(cause, fast);
+    let arose = arose_at(cause, x.m, speed, x.beacon, turned.bts);
     let brake = turned.brake;
     let still = brake.at_standstill(x.pulses);
     let rearm = still & has_bit(x.buttons, button::REARM);

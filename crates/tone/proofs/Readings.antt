@@ -1,7 +1,7 @@
 -- What a tone reads as under an accepted sheet, said without an order of looking: it lies in one row at most, reads as that row with the offset from that
 -- row's centre, and as nothing where it lies in none. Assumes nothing.
 use mathlib.Core.Path.{_≡_, refl, sym, ap, _∙_}
-use mathlib.Core.Logic.{_⊎_, inl, inr}
+use mathlib.Core.Logic.{_⊎_, inl, inr, _↔_}
 use mathlib.Core.Bool.{Bool, true, false}
 use mathlib.Core.List.{List, [], _∷_}
 use Prim.Native.Nat.{ℕ, zero, suc, _+_, _≤_, _<_}
@@ -12,6 +12,7 @@ use lib.ListN.{length}
 use lib.Ieee.{Float, nan, inf, fin, binary32, le, sub}
 use lib.Ieee.Scale.{finite}
 use Rattle.leaf.specs.Choosing.{pick}
+use Rattle.leaf.specs.Numbers.{quietCode, codeTop}
 use Rattle.leaf.specs.Answers.{given}
 use Rattle.tone.specs.declared.ToneRow.{ToneRow}
 use Rattle.tone.specs.declared.Reading.{Reading}
@@ -131,17 +132,33 @@ module _ (area : List ℕ) (tone : Float) where
       same : {x y : Reading} → given x ≡ given y → x ≡ y
       same q = cc
 
-  -- the ride's code of what is read is 0 to 11
-  pub code-range : (reading : Reading) → classifyOf area tone ≡ given reading → codeOf reading ≤ 11
-  code-range reading e = rw (classified area tone reading e .1) (go (readFrom 0 (rowsOf area 12) tone) (read area tone))
+  -- the ride's code of what is read is the number of its row, 0 to 11, and 12 where it is nothing
+  pub code-read : (reading : Reading) → classifyOf area tone ≡ given reading → (codeOf reading ≤ 11) ⊎ (reading ≡ Nothing)
+  code-read reading e = rw (classified area tone reading e .1) (go (readFrom 0 (rowsOf area 12) tone) (read area tone))
     where
       small : (k : ℕ) (d : Float) → k < 12 → codeOf (readingOf k d) ≤ 11
       small zero d h = omega arith
       small (suc k) d h = omega arith
 
-      go : (x : Reading) → Read area tone x → codeOf x ≤ 11
-      go x (of-row j i m) = small j (sub binary32 tone (centre j)) i
-      go x (of-none f) = omega arith
+      go : (x : Reading) → Read area tone x → (codeOf x ≤ 11) ⊎ (x ≡ Nothing)
+      go x (of-row j i m) = inl (small j (sub binary32 tone (centre j)) i)
+      go x (of-none f) = inr refl
+
+  -- 02 c: "The classifier's answer "nothing" becomes code 12": it has that code exactly when it reads nothing
+  pub code-quiet : (reading : Reading) → classifyOf area tone ≡ given reading → (codeOf reading ≡ quietCode) ↔ (reading ≡ Nothing)
+  code-quiet reading e = ((λ c. go c (code-read reading e)), λ n. ap codeOf n)
+    where
+      go : codeOf reading ≡ quietCode → (codeOf reading ≤ 11) ⊎ (reading ≡ Nothing) → reading ≡ Nothing
+      go c (inl low) = absurd (omega arith)
+      go c (inr n) = n
+
+  -- and no code above it
+  pub code-range : (reading : Reading) → classifyOf area tone ≡ given reading → codeOf reading ≤ codeTop
+  code-range reading e = go (code-read reading e)
+    where
+      go : (codeOf reading ≤ 11) ⊎ (reading ≡ Nothing) → codeOf reading ≤ codeTop
+      go (inl low) = omega arith
+      go (inr n) = rw n (omega arith)
 
 -- ---- "not-a-number is nothing", and so are both infinities
 

@@ -10,6 +10,7 @@ use lib.Ieee.{Float, nan, binary32, ofBits, ofInt, le, mul, sub}
 use lib.Ieee.Scale.{finite}
 use Rattle.leaf.specs.Choosing.{pick}
 use Rattle.leaf.specs.Bytes.{byte, word, long}
+use Rattle.leaf.specs.Numbers.{quietCode}
 use Rattle.leaf.specs.Checks.{Check, firstBad}
 use Rattle.leaf.specs.Answers.{Answer, given, refused, refusedAt, refusalOf}
 use Rattle.leaf.specs.declared.Refusal.the-variants.{Number, At}
@@ -166,8 +167,9 @@ abbrev pub paperOf : ToneAnswer → Answer Reading
 paperOf (Reads reading) = given reading
 paperOf (Refused f) = refusalOf f
 
--- ---- "The ride's beacon code is 0 for permanent or nothing."
+-- ---- "The ride's beacon code is 0 for permanent or nothing.", where nothing's gives way to 02 c: "The classifier's answer "nothing" becomes code
+-- 12 and no longer code 0"
 abbrev pub codeOf : Reading → ℕ
 codeOf (Beacon k offset) = k
 codeOf (Permanent offset) = 0
-codeOf Nothing = 0
+codeOf Nothing = quietCode

@@ -8,6 +8,7 @@ ghost use Prim.Native.Nat.{_≤_, _<_};
 ghost use lib.Ieee.{binary32, ofBits};
 ghost use Rattle.tone.specs.Tones.{placeOf, rowAt, sheetOf, rowOk, share, sharesEarlier, goodAt, faultOf, readSheet, paperOfSheet, blankSheet, besideOf, inRow, readingOf, readFrom, classifyOf, paperOf, codeOf};
 ghost use Rattle.leaf.specs.Answers.{refusedAt};
+use leaf::QUIET_CODE;
 use leaf::Refusal;
 
 // A sheet's length field, which is also how many of an area's bytes are looked at, and its version.
@@ -259,14 +260,14 @@ pub fn classify(area: &[u8], tone: f32) -> ToneAnswer
 }
 
 impl Reading {
-    // The ride's beacon code: the beacon's number, 0 for the permanent tone and for nothing.
+    // The ride's beacon code: the beacon's number, 0 for the permanent tone, that of a quiet pickup for nothing.
     pub fn code(self) -> u8
         ensures { λ r. ⌜ r ≡ codeOf self ⌝ }
     {
         match self {
             Reading::Beacon(number, _) => number,
             Reading::Permanent(_) => 0,
-            Reading::Nothing => 0,
+            Reading::Nothing => QUIET_CODE,
         }
     }
 }

@@ -5,10 +5,10 @@ use Rattle.step.specs.Step.{judgedOf}
 
 returns : tie.Need-returns
 unfolding judgedOf
-returns c = simp (c .answer-at .ensures, c .before .put-brake .ensures, c .before .before .has-bit .ensures, c .before .before .before .at-standstill .ensures, c .before .before .before .before .before .lowest .ensures, c .before .before .before .before .before .before .choose8 .ensures, c .before .before .before .before .before .before .before .too-fast .ensures, c .before .before .before .before .before .before .before .before .supervised .ensures, c .before .before .before .before .before .before .before .before .before .turn-crossing .ensures)
+returns c = simp (c .answer-at .ensures, c .before .put-brake .ensures, c .before .before .has-bit .ensures, c .before .before .before .at-standstill .ensures, c .before .before .before .before .before .arose-at .ensures, c .before .before .before .before .before .before .supervised .ensures, c .before .before .before .before .before .before .before .turn-crossing .ensures)
 
 pub judged-spec : {M : Type 1} → statement M
 judged-spec =
     tie.close
     (tie.spec (λ c κs. search needs) (λ c κs. search needs) (λ c κs. search needs) (λ c κs. search needs)
-    (λ c κs. search needs) (λ c κs. search needs) (λ c κs. search needs) (λ c κs. search needs) (λ c κs. search needs) returns)
+    (λ c κs. search needs) (λ c κs. search needs) (λ c κs. search needs) returns)

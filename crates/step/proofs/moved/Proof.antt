@@ -50,12 +50,12 @@ goes-on s top x d first is h =
 
 returns : tie.Need-returns
 returns c =
-    let first = c .before .before .before .before .before in
+    let first = c .before .before .before .before in
     goes-on _ _ _ _ _ (simp (first .before .before .functions-of .ensures) at (first .begin .ensures)) (c .if1 .taken)
 
 returns-2 : tie.Need-returns-2
 unfolding movedOf
-returns-2 c = simp (c .lowest .ensures, c .before .before .take-beacon .ensures, c .before .before .before .take-buttons .ensures, c .before .before .before .before .before .before .before .before .before .begin .ensures, c .before .before .before .before .before .before .before .before .before .before .before .functions-of .ensures)
+returns-2 c = simp (c .lowest .ensures, c .before .before .take-beacon .ensures, c .before .before .before .take-buttons .ensures, c .before .before .before .before .before .before .before .before .begin .ensures, c .before .before .before .before .before .before .before .before .before .before .functions-of .ensures)
 
 pub moved-spec : {M : Type 1} → statement M
 moved-spec =

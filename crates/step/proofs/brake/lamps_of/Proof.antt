@@ -5,10 +5,7 @@ use Rattle.step.specs.Brake.{lampsOf}
 
 returns : tie.Need-returns
 unfolding lampsOf
-returns c = simp (c .either2 .ensures, c .before .either .ensures, c .before .before .control-lamps .ensures, c .before .before .before .lamp-if .ensures, c .before .before .before .before .window-lamps .ensures)
+returns c = simp (c .either .ensures, c .before .button-lamps .ensures, c .before .before .lamp-if .ensures)
 
 pub lamps-of-spec : {M : Type 1} → statement M
-lamps-of-spec =
-    tie.close
-    (tie.spec (λ c κs. search needs) (λ c κs. search needs) (λ c κs. search needs) (λ c κs. search needs)
-    (λ c κs. search needs) returns)
+lamps-of-spec = tie.close (tie.spec (λ c κs. search needs) (λ c κs. search needs) (λ c κs. search needs) returns)
