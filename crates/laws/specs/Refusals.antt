@@ -16,7 +16,7 @@ use Rattle.laws.specs.Ranges.{Inside}
 
 -- ---- the facts
 
--- "beacon 0..11, buttons newly pressed (bits 0..10), mode 1 CONV or 2 BTS"
+-- "beacon 0..11, buttons newly pressed (bits 0..10), mode 1 CONV or 2 BTS"; 02 c: "9 from code 13", and "buttons above 2047 stay 9" (c7)
 pub record CodesMet (x : Sample) : Type 0 where
   pub beacon-high : x .beacon ≤ codeTop
   pub buttons-high : x .buttons ≤ buttonsTop

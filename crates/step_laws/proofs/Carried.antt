@@ -83,7 +83,7 @@ module _ (s : Settings) (top : ℕ) (x : Input) (d : Desk) where
   at-carries : Carries (d .code) (atBeacon s top x d)
   at-carries = at-beacon (sets-carry (d .code)) to-beacon-carry
 
-  moved-carries : Carries (x .beacon) (movedOf s top x d .desk)
+  pub moved-carries : Carries (x .beacon) (movedOf s top x d .desk)
   moved-carries = let h = at-carries in after-beacon (sets-carry (x .beacon)) of-beacon-carry (h .0, refl, h .2)
 
   mode-after : stepOf s top x d .desk .bts ≡ x .bts

@@ -7,7 +7,7 @@ use mathlib.Core.Bool.{Bool, true, false, _&&_, _||_, not}
 use lib.Dec.{leb, eqb, lit<}
 use lib.Bits.{bitOr, or-shr, or-mod}
 use Rattle.leaf.specs.Choosing.{pick}
-use Rattle.leaf.specs.Numbers.{bitOf}
+use Rattle.leaf.specs.Numbers.{quietCode, bitOf}
 use Rattle.leaf.specs.Buttons.{crossingButton, limitButton, overrideButton, increaseButton, rearmButton, beforeStopButton}
 use Rattle.signals.specs.declared.window.Waits.{Waits}
 use Rattle.signals.specs.declared.window.Waits.the-variants.{Nothing, One, Two, Five, Six, Seven, Zone, Nine, Limit}
@@ -17,7 +17,7 @@ use Rattle.signals.specs.Stop.{isLit}
 use Rattle.desk.specs.declared.brake.Brake.{Brake}
 use Rattle.desk.specs.declared.state.Desk.{Desk}
 use Rattle.desk.specs.State.{withBrake}
-use Rattle.step.specs.Brake.{lampIf, windowLamps, controlLamps, lampsOf}
+use Rattle.step.specs.Brake.{lampIf, windowLamps, controlLamps, buttonLamps, alarmLamp, lampsOf}
 
 -- ---- bit k of two masks put together is the one's or the other's
 
@@ -42,49 +42,101 @@ record BitIs (k mask : ℕ) (set : Bool) : Type 0 where
 or-as : {k a b : ℕ} {p q : Bool} → BitIs k a p → BitIs k b q → BitIs k (bitOr a b) (p || q)
 or-as {k} {a} {b} e f = record { is = or-bit k a b ∙ rw (e .is, f .is) }
 
--- ---- lamp 10
+-- ---- lamps 10 and 11
 
--- no window waits for rearm
-waits-dark : (waits : Waits) (age : ℕ) → BitIs 10 (waitsFor waits age) false
-waits-dark Nothing age = record { is = refl }
-waits-dark One age = record { is = refl }
-waits-dark Two age = record { is = refl }
-waits-dark Five age = record { is = refl }
-waits-dark Six age = record { is = refl }
-waits-dark Seven age = record { is = refl }
+-- neither is lit
+record Dark (mask : ℕ) : Type 0 where
+  ten : BitIs 10 mask false
+  eleven : BitIs 11 mask false
+
+-- of a mask that is a number both are seen
+dark : (mask : ℕ) → bitOf mask rearmButton ≡ false → bitOf mask alarmLamp ≡ false → Dark mask
+dark mask p q = record { ten = record { is = p }; eleven = record { is = q } }
+
+or-dark : {a b : ℕ} → Dark a → Dark b → Dark (bitOr a b)
+or-dark p q = record { ten = or-as (p .ten) (q .ten); eleven = or-as (p .eleven) (q .eleven) }
+
+-- no window waits for rearm, nor for the alarm
+waits-dark : (waits : Waits) (age : ℕ) → Dark (waitsFor waits age)
+waits-dark Nothing age = dark _ refl refl
+waits-dark One age = dark _ refl refl
+waits-dark Two age = dark _ refl refl
+waits-dark Five age = dark _ refl refl
+waits-dark Six age = dark _ refl refl
+waits-dark Seven age = dark _ refl refl
 waits-dark Zone age = cases (leb zonePress age)
   where
-    cases : (t : Bool) → BitIs 10 (pick t beforeStopButton 0) false
-    cases true = record { is = refl }
-    cases false = record { is = refl }
-waits-dark Nine age = record { is = refl }
-waits-dark Limit age = record { is = refl }
+    cases : (t : Bool) → Dark (pick t beforeStopButton 0)
+    cases true = dark _ refl refl
+    cases false = dark _ refl refl
+waits-dark Nine age = dark _ refl refl
+waits-dark Limit age = dark _ refl refl
 
--- no other lamp lights its bit
-lamp-dark : (weight : ℕ) → bitOf weight rearmButton ≡ false → (lit : Bool) → BitIs 10 (lampIf lit weight) false
-lamp-dark weight h true = record { is = h }
-lamp-dark weight h false = record { is = refl }
+-- a lamp lights its own bit alone
+lamp-dark : (weight : ℕ) → Dark weight → (lit : Bool) → Dark (lampIf lit weight)
+lamp-dark weight h true = h
+lamp-dark weight h false = dark 0 refl refl
 
-lamp-own : (lit : Bool) → BitIs 10 (lampIf lit rearmButton) lit
-lamp-own true = record { is = refl }
-lamp-own false = record { is = refl }
+rearm-own : (lit : Bool) → BitIs 10 (lampIf lit rearmButton) lit
+rearm-own true = record { is = refl }
+rearm-own false = record { is = refl }
 
-window-dark : (d : Desk) → BitIs 10 (windowLamps d) false
+rearm-else : (lit : Bool) → BitIs 11 (lampIf lit rearmButton) false
+rearm-else true = record { is = refl }
+rearm-else false = record { is = refl }
+
+alarm-own : (lit : Bool) → BitIs 11 (lampIf lit alarmLamp) lit
+alarm-own true = record { is = refl }
+alarm-own false = record { is = refl }
+
+alarm-else : (lit : Bool) → BitIs 10 (lampIf lit alarmLamp) false
+alarm-else true = record { is = refl }
+alarm-else false = record { is = refl }
+
+window-dark : (d : Desk) → Dark (windowLamps d)
 unfolding windowLamps
 window-dark d =
-    or-as (waits-dark (d .window .waits) (d .window .age))
-    (or-as (waits-dark (d .side .waits) (d .side .age)) (lamp-dark crossingButton refl (d .option .on)))
+    or-dark (waits-dark (d .window .waits) (d .window .age))
+    (or-dark (waits-dark (d .side .waits) (d .side .age)) (lamp-dark crossingButton (dark _ refl refl) (d .option .on)))
 
-control-bit : (still : Bool) (d : Desk) → BitIs 10 (controlLamps still d) (still && not (eqb (d .brake .cause) 0))
-unfolding controlLamps
-control-bit still d =
-    or-as (lamp-dark overrideButton refl (d .armed .armed || isLit (d .reminder .phase)))
-    (or-as (lamp-dark increaseButton refl (increaseLit (d .main))) (lamp-own (still && not (eqb (d .brake .cause) 0))))
+override-dark : (d : Desk) → Dark (lampIf (d .armed .armed || isLit (d .reminder .phase)) overrideButton)
+override-dark d = lamp-dark overrideButton (dark _ refl refl) (d .armed .armed || isLit (d .reminder .phase))
 
--- "10 when braked at standstill"
-pub lamp-rearm : (removable still : Bool) (d : Desk) → bitOf (lampsOf removable still d) rearmButton ≡ (still && not (eqb (d .brake .cause) 0))
-unfolding lampsOf
-lamp-rearm removable still d = or-as (window-dark d) (or-as (lamp-dark limitButton refl removable) (control-bit still d)) .is
+increase-dark : (d : Desk) → Dark (lampIf (increaseLit (d .main)) increaseButton)
+increase-dark d = lamp-dark increaseButton (dark _ refl refl) (increaseLit (d .main))
+
+limit-dark : (removable : Bool) → Dark (lampIf removable limitButton)
+limit-dark = lamp-dark limitButton (dark _ refl refl)
+
+module _ (removable still : Bool) (d : Desk) where
+  abbrev rearmed : Bool
+  rearmed = still && not (eqb (d .brake .cause) 0)
+
+  button-10 : BitIs 10 (buttonLamps removable still d) rearmed
+  unfolding buttonLamps controlLamps
+  button-10 =
+      or-as (window-dark d .ten) (or-as (limit-dark removable .ten)
+      (or-as (override-dark d .ten) (or-as (increase-dark d .ten) (rearm-own rearmed))))
+
+  button-11 : BitIs 11 (buttonLamps removable still d) false
+  unfolding buttonLamps controlLamps
+  button-11 =
+      or-as (window-dark d .eleven) (or-as (limit-dark removable .eleven)
+      (or-as (override-dark d .eleven) (or-as (increase-dark d .eleven) (rearm-else rearmed))))
+
+  -- "10 when braked at standstill"
+  pub lamp-rearm : bitOf (lampsOf removable still d) rearmButton ≡ rearmed
+  unfolding lampsOf
+  lamp-rearm = or-as (alarm-else (eqb (d .code) quietCode)) button-10 .is
+
+  -- 02 c: "Each sample with code 12 lights lamp bit 11, the alarm"
+  pub lamp-alarm : bitOf (lampsOf removable still d) alarmLamp ≡ eqb (d .code) quietCode
+  unfolding lampsOf
+  lamp-alarm = or-as (alarm-own (eqb (d .code) quietCode)) button-11 .is ∙ or-false (eqb (d .code) quietCode)
+    where
+      or-false : (t : Bool) → (t || false) ≡ t
+      or-false true = refl
+      or-false false = refl
 
 -- ---- all lamps but 10
 
@@ -115,13 +167,14 @@ or-same k a b c h = or-bit k a b ∙ ap (λ (t : Bool). bitOf a (2 ^ k) || t) h 
 -- they are lit as in a sample that is not at standstill, whatever the brake is
 pub lamps-else : (k : ℕ) → (k ≡ 10 → ⊥) → (removable still : Bool) (b : Brake) (d : Desk)
     → bitOf (lampsOf removable still (withBrake b d)) (2 ^ k) ≡ bitOf (lampsOf removable false d) (2 ^ k)
-unfolding lampsOf windowLamps controlLamps
+unfolding lampsOf buttonLamps windowLamps controlLamps
 lamps-else k h removable still b d =
-    or-same k (windowLamps d) _ _
+    or-same k (lampIf (eqb (d .code) quietCode) alarmLamp) _ _
+    (or-same k (windowLamps d) _ _
     (or-same k (lampIf removable limitButton) _ _
     (or-same k (lampIf (d .armed .armed || isLit (d .reminder .phase)) overrideButton) _ _
-    (or-same k (lampIf (increaseLit (d .main)) increaseButton) _ _ (dark (still && not (eqb (b .cause) 0))))))
+    (or-same k (lampIf (increaseLit (d .main)) increaseButton) _ _ (unlit (still && not (eqb (b .cause) 0)))))))
   where
-    dark : (lit : Bool) → bitOf (lampIf lit rearmButton) (2 ^ k) ≡ bitOf 0 (2 ^ k)
-    dark true = rearm-dark k h
-    dark false = refl
+    unlit : (lit : Bool) → bitOf (lampIf lit rearmButton) (2 ^ k) ≡ bitOf 0 (2 ^ k)
+    unlit true = rearm-dark k h
+    unlit false = refl

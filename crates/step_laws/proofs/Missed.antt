@@ -7,7 +7,7 @@ use mathlib.Core.Logic.{_⊎_, inl, inr, _↔_}
 use lib.Dec.{eqb}
 use borrow.Author.Tests.{ne-eqb}
 use Rattle.leaf.specs.Choosing.{pick}
-use Rattle.leaf.specs.Numbers.{agedOf, furtherOf, exceedsOf}
+use Rattle.leaf.specs.Numbers.{agedOf, furtherOf, exceedsOf, quietCode}
 use Rattle.card.specs.declared.Settings.{Settings}
 use Rattle.card.specs.Card.{reminds}
 use Rattle.signals.specs.declared.window.Waits.the-variants as waits
@@ -25,7 +25,7 @@ use Rattle.beacons.specs.Beacons.{beaconTaken}
 use Rattle.step.specs.declared.Input.{Input}
 use Rattle.step.specs.Speed.{crossingTurned, supervisedOf}
 use Rattle.step.specs.Brake.{lowest}
-use Rattle.step.specs.Step.{movedOf, judgedOf, stepOf}
+use Rattle.step.specs.Step.{movedOf, speedCause, aroseOf, judgedOf, stepOf}
 use Rattle.step_laws.specs.Walk.{atBeacon, readsAt}
 use Rattle.step_laws.specs.Unanswered.{Which, main, side, windowOf, TimeOver, atButtons, MissLaws}
 use Rattle.step_laws.proofs.Choosing.{pick-has, not-so}
@@ -99,10 +99,17 @@ module _ (s : Settings) (top : ℕ) (x : Input) (d : Desk) where
       lowest-is _ _ n (pick-later (readsAt s x e && eqb (x .beacon) 8 && not (e .armed .armed)) 4 (omega arith)) low high
 
   judged-miss : (n : ℕ) → 1 ≤ n → n ≤ 3 → (stepOf s top x d .arose ≡ n) ↔ (movedOf s top x d .cause ≡ n)
-  unfolding stepOf judgedOf
-  judged-miss n low high =
-      let speed : ℕ = supervisedOf s top (crossingTurned (x .m) (movedOf s top x d .desk)) in
-      lowest-is _ _ n (pick-later (exceedsOf (x .m) (speed + 500)) 5 (omega arith)) low high
+  unfolding stepOf judgedOf aroseOf
+  judged-miss n low high = (λ h. at-speed .0 (at-pickup .0 h), λ h. at-pickup .1 (at-speed .1 h))
+    where
+      turned : Desk
+      turned = crossingTurned (x .m) (movedOf s top x d .desk)
+
+      at-speed : (lowest (movedOf s top x d .cause) (speedCause (x .m) (supervisedOf s top turned)) ≡ n) ↔ (movedOf s top x d .cause ≡ n)
+      at-speed = lowest-is _ _ n (pick-later (exceedsOf (x .m) (supervisedOf s top turned + 500)) 5 (omega arith)) low high
+
+      at-pickup : (stepOf s top x d .arose ≡ n) ↔ (lowest (movedOf s top x d .cause) (speedCause (x .m) (supervisedOf s top turned)) ≡ n)
+      at-pickup = lowest-is _ _ n (pick-later (eqb (x .beacon) quietCode && not (turned .bts)) 6 (omega arith)) low high
 
   -- no miss in a sample that changes the mode
   begun-miss : (n : ℕ) → 1 ≤ n → (begins .cause ≡ n) ↔ ((d .bts ≡ x .bts) × (advances .cause ≡ n))

@@ -46,7 +46,7 @@ module _ (s : Settings) (top : ℕ) (x : Input) (d : Desk) where
     -- the cause after a sample is the rule's, of the cause before, what arose, and rearm; the answer tells it
     pub cause-after : causeAfter ≡ standingCause (d .brake .cause) causeArose (rearms x d)
     pub cause-told : stepOf s top x d .answer .cause ≡ causeAfter
-    -- what arises is one of the causes 1..5, or 0, none
+    -- what arises is one of the causes 1..6, or 0, none
     pub arose-high : causeArose ≤ causeTop
     -- a cause stands until a rearm takes effect: at standstill, with button 10, and where no cause arose in the sample
     pub stands-until : (d .brake .cause ≡ 0 → ⊥)
