@@ -79,7 +79,7 @@ fn opened(checks: &mut Checks) {
 /// "1, 9×0, 0/0/0/2 is accepted, with 8×0 it is 11." (b3) The order stays 8, 9, 10, 11.
 fn mode_change(checks: &mut Checks) {
     causes(checks, &[("1, 9×0, 0/0/0/2", Ok(0)), ("1, 8×0, 0/0/0/2", Err(11)), ("1, 9×0, 1/0/0/2", Err(11))]);
-    causes(checks, &[("1, 0/12/0/2", Err(9)), ("1, 0/0/2048/2", Err(9))]);
+    causes(checks, &[("1, 0/13/0/2", Err(9)), ("1, 0/0/2048/2", Err(9))]);
     causes(checks, &[("1, 1001/0/0/2", Err(10)), ("1, 1000/0/0/2", Err(11))]);
     for zeros in 1..=40 {
         let wanted = if zeros >= 9 { Ok(0) } else { Err(11) };
@@ -118,7 +118,7 @@ fn lamp(checks: &mut Checks) {
 /// "A refused sample neither counts nor breaks the run." (b4) Ones that are refused for a value, for too many pulses, for
 /// the mode with a pulse and without.
 fn refused_in_the_run(checks: &mut Checks) {
-    for (refused, number) in [("1001", 10), ("0/12", 9), ("1/12", 9), ("0/0/0/3", 9), ("1/0/0/2", 11), ("0/0/0/2", 11)] {
+    for (refused, number) in [("1001", 10), ("0/13", 9), ("1/13", 9), ("0/0/0/3", 9), ("1/0/0/2", 11), ("0/0/0/2", 11)] {
         causes(checks, &[
             (&format!("300, 5×0, {refused}"), Err(number)),
             (&format!("300, 5×0, {refused}, 4×0, 0/0/1024"), Ok(0)),
