@@ -14,6 +14,7 @@ mod line;
 mod make;
 mod notation;
 mod pieces;
+mod quiet_check;
 mod receive;
 mod receive_check;
 mod ride;
