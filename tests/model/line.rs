@@ -61,9 +61,9 @@ pub fn make_line(seed: u64) -> (Vec<u8>, Vec<u8>) {
 fn line(rng: &mut Rng, kind: Kind) -> Line {
     let (card, session) = fresh(rng, "pieces");
     let (train, tick, vmax) = (session.train, session.settings.tick, session.settings.vmax);
-    let ride = rng.pick(&["random", "answers", "drive", "stand"]);
+    let ride = rng.pick(&["random", "answers", "drive", "stand", "quiet"]);
     // Ten samples of standing need room.
-    let most = if ride == "stand" { 24 } else { rng.pick(&[1, 2, 3, 8, 24]) };
+    let most = if ride == "stand" || ride == "quiet" { 24 } else { rng.pick(&[1, 2, 3, 8, 24]) };
     let n = if kind == Kind::NoSamples { 0 } else { rng.within(1, most) };
     let seed = rng.next();
     let samples = run(Rng::new(ride, seed), session, ride, n as usize).unwrap();

@@ -33,7 +33,7 @@ model cover CARD < RECORDING
 model cover-pieces < BATCH
 model answer < BATCH
 model make cards|settings|tones|pieces SEED SIZE > BATCH
-model make-ride random|answers|drive|long|stand|damaged SEED SAMPLES CARDFILE RECFILE
+model make-ride random|answers|drive|long|stand|quiet|damaged SEED SAMPLES CARDFILE RECFILE
 model make-line SEED CARDFILE LINEFILE
 model self";
 

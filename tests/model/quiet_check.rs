@@ -242,7 +242,8 @@ struct Met {
 /// Rides by seed with 12 written over some of their codes.
 fn in_its_place(checks: &mut Checks) {
     let mut met = Met::default();
-    let kinds = [("random", 400, 80), ("answers", 800, 80), ("drive", 800, 60), ("long", 2000, 20), ("stand", 100, 200)];
+    let kinds = [("random", 400, 80), ("answers", 800, 80), ("drive", 800, 60), ("long", 2000, 20), ("stand", 100, 200),
+        ("quiet", 150, 200)];
     for (kind, size, seeds) in kinds {
         for seed in 1..=seeds {
             let (card, bytes) = make_ride(kind, seed, size).unwrap();

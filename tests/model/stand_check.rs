@@ -180,7 +180,8 @@ fn top(checks: &mut Checks) {
 /// while braked; the brake goes off just there, with a rearm.
 fn from_the_history(checks: &mut Checks) {
     let (mut changed, mut refused, mut rearmed, mut too_early) = (0, 0, 0, 0);
-    let kinds = [("random", 400, 40), ("answers", 800, 40), ("drive", 800, 40), ("long", 2000, 20), ("stand", 100, 120)];
+    let kinds = [("random", 400, 40), ("answers", 800, 40), ("drive", 800, 40), ("long", 2000, 20), ("stand", 100, 120),
+        ("quiet", 150, 80)];
     for (kind, size, seeds) in kinds {
         for seed in 1..=seeds {
             let (card, bytes) = make_ride(kind, seed, size).unwrap();
