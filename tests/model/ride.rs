@@ -2,7 +2,8 @@
 
 use crate::card;
 use crate::desk::{Answer, Main, Reminder, Sample, Session, BTS, CAUSE_TOP};
-use crate::stand::Meter;
+use crate::quiet;
+use crate::stand;
 use std::collections::BTreeMap;
 use std::io::Write;
 
@@ -99,16 +100,19 @@ pub fn print(card: &[u8], bytes: &[u8], whole: bool, out: &mut impl Write) -> st
 }
 
 /// What a ride met, by key. "arose" counts samples in which a cause arose, "stood" samples in which it began to stand;
-/// "steps" counts samples with a standing limit of that many steps. The keys of standstill are stand.rs's.
+/// "steps" counts samples with a standing limit of that many steps. The keys of standstill are stand.rs's, those of the
+/// quiet pickup quiet.rs's.
 pub fn cover(card: &[u8], bytes: &[u8]) -> BTreeMap<String, u64> {
     let mut counts: BTreeMap<String, u64> = BTreeMap::new();
     let mut last_code = 0;
     let mut last_cause = 0;
-    let mut meter = Meter::new();
+    let mut of_standstill = stand::Meter::new();
+    let mut of_quiet = quiet::Meter::new();
     let mut meets = |key: String| *counts.entry(key).or_insert(0) += 1;
     let end = each_sample(card, bytes, |session, sample, result| {
         let mut met = Vec::new();
-        meter.meet(session, sample, result, &mut met);
+        of_standstill.meet(session, sample, result, &mut met);
+        of_quiet.meet(session, sample, result, &mut met);
         met.into_iter().for_each(&mut meets);
         let Ok(answer) = result else { return };
         meets("samples".into());
