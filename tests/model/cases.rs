@@ -1,5 +1,5 @@
 //! Cases of cards, tones and recordings in pieces, a line each, in the notation of tests/compare/README.md: what each is
-//! answered with.
+//! answered with, and what a batch of tones meets.
 
 use crate::card::{self, big_endian};
 use crate::cards::unhex;
@@ -95,6 +95,57 @@ fn classify(area: &[u8], case: &[u8]) -> String {
             }
         }
     }
+}
+
+/// What a tone on a good sheet is: both sides of "nothing".
+const TONE_ROWS: [&str; 10] = [
+    "a tone of a beacon", "the permanent tone", "a tone at a row's end", "not-a-number", "plus infinity", "minus infinity",
+    "below all rows", "above all rows", "between two rows", "nothing, beside a row's end",
+];
+
+/// How often a batch meets each row.
+pub fn cover_tones(batch: &str) -> Vec<(&'static str, u64)> {
+    let mut counts = TONE_ROWS.map(|row| (row, 0));
+    let mut area = Vec::new();
+    for line in batch.lines() {
+        match line.split_once(' ') {
+            Some(("area", digits)) => area = unhex(digits),
+            Some(("tone", digits)) => {
+                let case = unhex(digits);
+                let met = meet_tone(&changed(&area, &case[4..]), f32::from_bits(big_endian(&case[..4])));
+                for (_, count) in counts.iter_mut().filter(|(row, _)| met.contains(row)) {
+                    *count += 1;
+                }
+            }
+            _ => {}
+        }
+    }
+    counts.to_vec()
+}
+
+fn meet_tone(area: &[u8], tone: f32) -> Vec<&'static str> {
+    let (Ok(rows), Ok(read)) = (tone::sheet(area), tone::classify(area, tone)) else { return Vec::new() };
+    let at_an_end = rows.iter().any(|row| tone == row.low || tone == row.high);
+    match read {
+        Tone::Beacon(..) if at_an_end => return vec!["a tone of a beacon", "a tone at a row's end"],
+        Tone::Beacon(..) => return vec!["a tone of a beacon"],
+        Tone::Permanent(_) if at_an_end => return vec!["the permanent tone", "a tone at a row's end"],
+        Tone::Permanent(_) => return vec!["the permanent tone"],
+        Tone::Nothing => {}
+    }
+    let beside = |end: f32| tone.is_finite() && tone > 0.0 && tone.to_bits().abs_diff(end.to_bits()) == 1;
+    let mut met = vec![match tone {
+        _ if tone.is_nan() => "not-a-number",
+        f32::INFINITY => "plus infinity",
+        f32::NEG_INFINITY => "minus infinity",
+        _ if rows.iter().all(|row| tone < row.low) => "below all rows",
+        _ if rows.iter().all(|row| tone > row.high) => "above all rows",
+        _ => "between two rows",
+    }];
+    if rows.iter().any(|row| beside(row.low) || beside(row.high)) {
+        met.push("nothing, beside a row's end");
+    }
+    met
 }
 
 pub fn hex(bytes: &[u8]) -> String {

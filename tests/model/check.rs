@@ -1,10 +1,11 @@
 //! The model's own checks: the paper's ride, "Both sides of each line", tones and cards; those of the receiver are in
-//! receive_check.rs, those of standstill in stand_check.rs. tests/compare/run has it print the lessons and the readings
-//! too.
+//! receive_check.rs, those of standstill in stand_check.rs, those of the quiet pickup in quiet_check.rs. tests/compare/run
+//! has it print the lessons and the readings too.
 
 use crate::card::{self, refused, refused_at, Row, Settings};
 use crate::cards::{unhex, CARD_A, CARD_P, CARD_R, CARD_R2, CARD_RL};
 use crate::desk::{Answer, Main, Sample, Session};
+use crate::quiet_check;
 use crate::receive_check;
 use crate::ride::print;
 use crate::stand_check;
@@ -40,6 +41,7 @@ pub fn all(out: &mut impl Write) -> io::Result<usize> {
     tones(&mut checks);
     receive_check::all(&mut checks);
     stand_check::all(&mut checks);
+    quiet_check::all(&mut checks);
     for line in &checks.failed {
         writeln!(out, "failed: {line}")?;
     }
@@ -78,7 +80,7 @@ fn papers_ride(checks: &mut Checks) -> io::Result<()> {
         ("no samples", unhex(CARD_A), unhex("000000060106"), "n limit lamps cause"),
         ("7", unhex(CARD_A), unhex("000000060107"), "refused 7"),
         ("card before recording", vec![], vec![], "refused 1"),
-        ("9", unhex(CARD_A), unhex("0000000c0106 00000c000001"), "refused 9"),
+        ("9", unhex(CARD_A), unhex("0000000c0106 00000d000001"), "refused 9"),
     ];
     for (name, card, ride, wanted) in refusals {
         let mut got = Vec::new();

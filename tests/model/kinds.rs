@@ -1,8 +1,8 @@
 //! The kinds of rides: what the track and the mode do, and the pace against S.
 
 use crate::damage;
-use crate::desk::{Main, Sample, BTS, CONV, METRE, STANDING};
-use crate::steer::{Driver, Goal, Pace};
+use crate::desk::{Main, Reminder, Sample, BTS, CONV, METRE, QUIET, STANDING};
+use crate::steer::{Driver, Fails, Goal, Pace};
 
 impl Driver {
     /// Random fields, mostly in range; standstill and rearm often enough that the brake goes off again.
@@ -37,6 +37,7 @@ impl Driver {
         }
         let (mode, pace) = self.mode_and_pace(self.pace);
         sample.mode = mode;
+        sample.beacon = self.heard(sample.beacon, mode);
         if matches!(pace, Pace::Stand) {
             sample.pulses = 0;
         }
@@ -164,7 +165,7 @@ impl Driver {
             if self.rng.chance(25) {
                 // While moving, and out of range too: 9 or 10 goes before 11.
                 let too_many = (100_000 / self.tick() + 1) as u16;
-                let (pulses, beacon) = self.rng.pick(&[(1, 12), (too_many, 0)]);
+                let (pulses, beacon) = self.rng.pick(&[(1, 13), (too_many, 0)]);
                 return self.push(Sample { pulses, beacon, buttons: 0, mode: 3 - self.session.mode });
             }
             let early = self.rng.within(1, 8);
@@ -183,6 +184,73 @@ impl Driver {
         self.next_beacon = self.rng.within(2, 30);
         let code = self.rng.pick(&[8, 8, 8, 1, 9, 10, 4]);
         self.go(code, 0)
+    }
+
+    /// Beacons close together, and a pickup that goes quiet often: behind a beacon and before the same again, where a window
+    /// or a reminder is missed, over speed, with a mode change, with a rearm. The last sample may be one that is refused.
+    pub fn quiet_sample(&mut self) -> bool {
+        if self.goal == Goal::Stop {
+            return self.reminder_sample();
+        }
+        if self.at_last_try() && self.rng.chance(90) {
+            let (mode, most) = (self.session.mode, 100_000 / self.tick());
+            let (pulses, beacon, buttons, mode) = self.rng.pick(&[
+                (0, QUIET + 1, 0, mode), (0, QUIET, 2048, mode), (0, 0, 2048, mode), (0, QUIET, 2047, mode),
+                (most + 1, QUIET, 0, mode), (1, QUIET, 0, CONV + BTS - mode),
+            ]);
+            return self.push(Sample { pulses: pulses as u16, beacon, buttons, mode });
+        }
+        let near = self.rng.within(0, 2_000);
+        let zeros = self.rng.within(1, 12);
+        self.change_pace(&[Pace::Stand, Pace::Under(near), Pace::Under(near), Pace::Edge, Pace::Creep(zeros)], 3, 40);
+        let braked_in_bts = self.session.cause != 0 && self.session.mode == BTS;
+        if self.rng.chance(if braked_in_bts { 10 } else { 3 }) {
+            self.want_mode();
+        }
+        let buttons = if self.rng.chance(3) { 128 } else { 0 };
+        self.next_beacon -= 1;
+        if self.mode_at == Some(self.session.stood + 2) && self.rng.chance(60) {
+            self.next_beacon = 0; // in the sample before the mode change
+        }
+        if self.next_beacon > 0 {
+            let hold = self.rng.chance(15);
+            return self.go(if hold { self.session.last_code } else { 0 }, buttons);
+        }
+        self.next_beacon = self.rng.within(1, 40);
+        let code = self.rng.pick(&[1, 1, 2, 3, 4, 5, 6, 7, 7, 8, 9, 9, 10, 11]);
+        let again = self.session.main == Main::Row(4) && self.rng.chance(40);
+        self.go(if again { 7 } else { code }, buttons)
+    }
+
+    /// It is after a reminder at first, with a good pickup until one is missed.
+    pub fn after_a_reminder(&mut self) {
+        self.goal = Goal::Stop;
+        self.pace = Pace::Edge;
+        self.mode_at = None;
+        self.fails = Fails { anywhere: 0, beacon: 0, ..self.fails };
+    }
+
+    /// Override, a stop passed and increased, then on until its reminders are over.
+    fn reminder_sample(&mut self) -> bool {
+        let (code, buttons) = match self.number() {
+            0 => (0, 128),
+            1 => (8, 0),
+            2 => (0, 256),
+            _ => (0, 0),
+        };
+        if !self.go(code, buttons) {
+            return false;
+        }
+        match self.session.reminder {
+            Reminder::Lit { age: 0, .. } if self.rng.chance(40) => self.fails.anywhere = 200,
+            Reminder::Waits | Reminder::Lit { .. } | Reminder::Pressed { .. } => {}
+            _ if self.number() > 3 => {
+                self.goal = Goal::Signals;
+                self.fails = Fails { anywhere: 200, beacon: 20, ..self.fails };
+            }
+            _ => {}
+        }
+        true
     }
 
     fn new_goal(&mut self) {

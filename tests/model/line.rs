@@ -61,9 +61,9 @@ pub fn make_line(seed: u64) -> (Vec<u8>, Vec<u8>) {
 fn line(rng: &mut Rng, kind: Kind) -> Line {
     let (card, session) = fresh(rng, "pieces");
     let (train, tick, vmax) = (session.train, session.settings.tick, session.settings.vmax);
-    let ride = rng.pick(&["random", "answers", "drive", "stand"]);
+    let ride = rng.pick(&["random", "answers", "drive", "stand", "quiet"]);
     // Ten samples of standing need room.
-    let most = if ride == "stand" { 24 } else { rng.pick(&[1, 2, 3, 8, 24]) };
+    let most = if ride == "stand" || ride == "quiet" { 24 } else { rng.pick(&[1, 2, 3, 8, 24]) };
     let n = if kind == Kind::NoSamples { 0 } else { rng.within(1, most) };
     let seed = rng.next();
     let samples = run(Rng::new(ride, seed), session, ride, n as usize).unwrap();
@@ -202,14 +202,14 @@ impl Line {
         let sample = &mut self.samples[at];
         for _ in 0..rng.within(1, 2) {
             match rng.within(0, 8) {
-                0 => sample.beacon = rng.pick(&[11, 12]),
+                0 => sample.beacon = rng.pick(&[12, 13]),
                 1 => sample.buttons = rng.pick(&[0x07ff, 0x0700, 0x0800, 0x08ff]),
                 2 => sample.mode = rng.pick(&[0, 3]),
                 3 => sample.mode = rng.pick(&[1, 2]),
                 4 => sample.pulses = 0xffff,
                 5 => {
                     sample.pulses = 0xffff;
-                    sample.beacon = rng.pick(&[0, 11, 12, 255]);
+                    sample.beacon = rng.pick(&[0, 12, 13, 255]);
                 }
                 6 | 7 => sample.pulses = (100_000 / self.tick as u32 + rng.pick(&[0, 0, 1])) as u16,
                 _ => bend_sample(rng, sample, self.tick),

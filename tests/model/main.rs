@@ -12,7 +12,10 @@ mod desk;
 mod kinds;
 mod line;
 mod make;
+mod notation;
 mod pieces;
+mod quiet;
+mod quiet_check;
 mod receive;
 mod receive_check;
 mod ride;
@@ -28,10 +31,10 @@ const USAGE: &str = "model run CARD < RECORDING
 model ride CARD < RECORDING
 model receive CARD LENGTH[,LENGTH..] < LINE
 model cover CARD < RECORDING
-model cover-pieces < BATCH
+model cover-pieces|cover-tones < BATCH
 model answer < BATCH
 model make cards|settings|tones|pieces SEED SIZE > BATCH
-model make-ride random|answers|drive|long|stand|damaged SEED SAMPLES CARDFILE RECFILE
+model make-ride random|answers|drive|long|stand|quiet|damaged SEED SAMPLES CARDFILE RECFILE
 model make-line SEED CARDFILE LINEFILE
 model self";
 
@@ -54,8 +57,9 @@ fn main() -> io::Result<()> {
                 writeln!(out, "{key} {count}")?;
             }
         }
-        ["cover-pieces"] => {
-            for (row, count) in pieces::cover(&io::read_to_string(io::stdin())?) {
+        [what @ ("cover-pieces" | "cover-tones")] => {
+            let cover = if what == "cover-pieces" { pieces::cover } else { cases::cover_tones };
+            for (row, count) in cover(&io::read_to_string(io::stdin())?) {
                 writeln!(out, "{count} {row}")?;
             }
         }

@@ -1,8 +1,9 @@
 //! A ride, whole: document 01, "A ride, whole".
 
 use crate::card;
-use crate::desk::{Answer, Main, Reminder, Sample, Session, BTS};
-use crate::stand::Meter;
+use crate::desk::{Answer, Main, Reminder, Sample, Session, BTS, CAUSE_TOP};
+use crate::quiet;
+use crate::stand;
 use std::collections::BTreeMap;
 use std::io::Write;
 
@@ -99,20 +100,23 @@ pub fn print(card: &[u8], bytes: &[u8], whole: bool, out: &mut impl Write) -> st
 }
 
 /// What a ride met, by key. "arose" counts samples in which a cause arose, "stood" samples in which it began to stand;
-/// "steps" counts samples with a standing limit of that many steps. The keys of standstill are stand.rs's.
+/// "steps" counts samples with a standing limit of that many steps. The keys of standstill are stand.rs's, those of the
+/// quiet pickup quiet.rs's.
 pub fn cover(card: &[u8], bytes: &[u8]) -> BTreeMap<String, u64> {
     let mut counts: BTreeMap<String, u64> = BTreeMap::new();
     let mut last_code = 0;
     let mut last_cause = 0;
-    let mut meter = Meter::new();
+    let mut of_standstill = stand::Meter::new();
+    let mut of_quiet = quiet::Meter::new();
     let mut meets = |key: String| *counts.entry(key).or_insert(0) += 1;
     let end = each_sample(card, bytes, |session, sample, result| {
         let mut met = Vec::new();
-        meter.meet(session, sample, result, &mut met);
+        of_standstill.meet(session, sample, result, &mut met);
+        of_quiet.meet(session, sample, result, &mut met);
         met.into_iter().for_each(&mut meets);
         let Ok(answer) = result else { return };
         meets("samples".into());
-        for cause in 1..=5 {
+        for cause in 1..=CAUSE_TOP {
             if session.arisen.contains(&cause) {
                 meets(format!("arose_{cause}"));
             }
@@ -121,7 +125,7 @@ pub fn cover(card: &[u8], bytes: &[u8]) -> BTreeMap<String, u64> {
             meets(format!("stood_{}", answer.cause));
         }
         last_cause = answer.cause;
-        for bit in 0..=10 {
+        for bit in 0..=11 {
             if answer.lamps >> bit & 1 == 1 {
                 meets(format!("lamp_{bit}"));
             }

@@ -2,7 +2,7 @@
 
 use crate::card::Settings;
 use crate::damage;
-use crate::desk::{train_speed, Main, Reminder, Sample, Session, Window, METRE, STANDING};
+use crate::desk::{train_speed, Main, Reminder, Sample, Session, Window, METRE, QUIET, STANDING};
 use crate::make::{card_bytes, good_settings, Rng};
 use crate::ride::recorded;
 use crate::windows::waits_for;
@@ -29,6 +29,18 @@ struct Care {
     asleep: i64,
     at_an_end: i64,
     wrong: i64,
+    reminded: i64,
+}
+
+/// How often the pickup goes quiet: in ten thousand samples, and, in percent, behind a beacon, with a mode change, and where
+/// a window or a reminder is missed. How often the train is over speed then, or all but over it, in percent.
+#[derive(Clone, Copy)]
+pub struct Fails {
+    pub anywhere: i64,
+    pub beacon: i64,
+    pub mode: i64,
+    pub miss: i64,
+    pub over: i64,
 }
 
 pub struct Driver {
@@ -37,13 +49,18 @@ pub struct Driver {
     samples: Vec<Sample>,
     presses: Vec<(usize, u16)>,
     care: Care,
+    pub fails: Fails,
+    /// The samples for which the pickup stays quiet, and the code that it heard before.
+    quiet_left: i64,
+    before_quiet: u8,
     pub pace: Pace,
     pub pace_left: i64,
     /// How a braked train is held: it stands, or creeps for a while.
     held: Pace,
     /// The count, that sample included, at which the mode is to change; 0 is one with a pulse.
     pub mode_at: Option<i64>,
-    /// The sample from which a ride of kind stand is after its last mode change, maybe one that is refused.
+    /// The sample from which a ride of kind stand is after its last mode change, maybe one that is refused; the last
+    /// one of kind quiet.
     last_try: usize,
     pub goal: Goal,
     pub goal_left: i64,
@@ -101,17 +118,32 @@ pub fn train_for(rng: &mut Rng, settings: &Settings) -> u8 {
 /// Most rides move soon; some stand at first, and some change the mode in their first sample.
 pub fn run(mut rng: Rng, session: Session, kind: &str, samples: usize) -> Option<Vec<Sample>> {
     let care = match kind {
-        "answers" => Care { asleep: 15, at_an_end: 40, wrong: 15 },
-        _ => Care { asleep: 4, at_an_end: 6, wrong: 4 },
+        "answers" => Care { asleep: 15, at_an_end: 40, wrong: 15, reminded: 65 },
+        "quiet" => Care { asleep: 60, at_an_end: 20, wrong: 10, reminded: 20 },
+        _ => Care { asleep: 4, at_an_end: 6, wrong: 4, reminded: 65 },
     };
-    let (stands, changes) = if kind == "stand" { (40, 35) } else { (20, 8) };
+    let fails = match kind {
+        "quiet" => {
+            let (anywhere, beacon) = (rng.pick(&[10, 100, 500]), rng.pick(&[0, 20, 50]));
+            Fails { anywhere, beacon, mode: 50, miss: 85, over: 20 }
+        }
+        "stand" | "random" => Fails { anywhere: 60, beacon: 4, mode: 6, miss: 4, over: 4 },
+        "answers" => Fails { anywhere: 15, beacon: 2, mode: 6, miss: 25, over: 2 },
+        "long" => Fails { anywhere: 4, beacon: 2, mode: 6, miss: 2, over: 2 },
+        _ => Fails { anywhere: 15, beacon: 2, mode: 6, miss: 2, over: 2 },
+    };
+    let (stands, changes) = if kind == "stand" || kind == "quiet" { (40, 35) } else { (20, 8) };
     let pace_left = if rng.chance(stands) { rng.within(10, 60) } else { 3 };
     let mode_at = if rng.chance(changes) { Some(STANDING) } else { None };
-    let last_try = rng.within(2, (samples as i64 - 15).max(4)) as usize;
+    let last_try = if kind == "quiet" { samples.max(1) - 1 } else { rng.within(2, (samples as i64 - 15).max(4)) as usize };
     let mut driver = Driver {
-        rng, session, samples: Vec::new(), presses: Vec::new(), care, pace: Pace::Stand, pace_left, held: Pace::Stand,
-        mode_at, last_try, goal: Goal::Signals, goal_left: 100, next_beacon: 5,
+        rng, session, samples: Vec::new(), presses: Vec::new(), care, fails, quiet_left: 0, before_quiet: 0,
+        pace: Pace::Stand, pace_left, held: Pace::Stand, mode_at, last_try, goal: Goal::Signals, goal_left: 100,
+        next_beacon: 5,
     };
+    if kind == "quiet" && driver.session.settings.function(2) && driver.rng.chance(40) {
+        driver.after_a_reminder();
+    }
     while driver.samples.len() < samples.min(10_000) {
         let accepted = match kind {
             "random" => driver.random_sample(),
@@ -119,6 +151,7 @@ pub fn run(mut rng: Rng, session: Session, kind: &str, samples: usize) -> Option
             "drive" => driver.drive_sample(),
             "long" => driver.long_sample(),
             "stand" => driver.stand_sample(),
+            "quiet" => driver.quiet_sample(),
             _ => return None,
         };
         if !accepted {
@@ -168,6 +201,11 @@ impl Driver {
         true
     }
 
+    /// The samples that it has so far.
+    pub fn number(&self) -> usize {
+        self.samples.len()
+    }
+
     pub fn at_last_try(&self) -> bool {
         self.samples.len() == self.last_try
     }
@@ -193,8 +231,8 @@ impl Driver {
         }
     }
 
-    /// On a braked desk rearm is pressed at every count, mostly where it may work, and where a window is about to be
-    /// missed.
+    /// On a braked desk rearm is pressed at every count, mostly where it may work, with a mode change, and where a window is
+    /// about to be missed.
     pub fn press_rearm(&mut self, sample: &mut Sample) {
         if self.session.cause == 0 {
             return;
@@ -203,6 +241,7 @@ impl Driver {
         let chance = match (self.session.stood_with(sample), windows.map(|window| window.left).min()) {
             (0, _) => 5,
             (1..=8, _) => 10,
+            _ if sample.mode != self.session.mode => 60,
             (_, None) => 40,
             (_, Some(1)) => 80,
             _ => 20,
@@ -231,6 +270,7 @@ impl Driver {
             }
         }
         let (mode, pace) = self.mode_and_pace(pace);
+        let beacon = self.heard(beacon, mode);
         let s = self.session.s;
         let mut sample = Sample { pulses: self.pulses(pace, s), beacon, buttons, mode };
         let mut trial = self.session.clone();
@@ -246,8 +286,47 @@ impl Driver {
         if matches!(pace, Pace::Edge) && self.rng.within(0, 299) == 0 && (sample.pulses as i64 + 1) * self.tick() <= 100_000 {
             sample.pulses += 1;
         }
+        let may_move = mode == self.session.mode && self.session.cause == 0;
+        if beacon == QUIET && may_move && self.rng.chance(self.fails.over) {
+            // At the last speed without cause 5, or the first with it.
+            let pulses = self.pulses(Pace::Edge, trial.s) as i64 + self.rng.pick(&[0, 1, 1]);
+            sample.pulses = pulses.min((100_000 / self.tick()).min(65_535)) as u16;
+        }
         self.press_rearm(&mut sample);
         self.push(sample)
+    }
+
+    /// What the pickup hears of a code in a sample of this mode: nothing for one sample or for some, and behind that
+    /// often the code before it again.
+    pub fn heard(&mut self, code: u8, mode: u8) -> u8 {
+        if self.quiet_left == 0 && self.goes_quiet(mode) {
+            let long = self.rng.within(1, 12);
+            self.quiet_left = self.rng.pick(&[1, 1, 1, 2, 3, long]);
+            if !self.session.quiet() {
+                self.before_quiet = self.session.last_code;
+            }
+        }
+        if self.quiet_left > 0 {
+            self.quiet_left -= 1;
+            return QUIET;
+        }
+        if self.session.quiet() {
+            let other = self.rng.within(1, 11) as u8;
+            return self.rng.pick(&[self.before_quiet, self.before_quiet, self.before_quiet, other, code, code]);
+        }
+        code
+    }
+
+    /// Whether it goes quiet in this sample, which misses something, stands behind a beacon, changes the mode, or is any.
+    fn goes_quiet(&mut self, mode: u8) -> bool {
+        let mut windows = self.session.main_window.iter().chain(self.session.side_window.iter());
+        let misses = windows.any(|window| window.left == 1)
+            || matches!(self.session.reminder, Reminder::Lit { age: 49, .. });
+        let beacon = self.session.last_code != 0 && !self.session.quiet();
+        (misses && self.rng.chance(self.fails.miss))
+            || (beacon && self.rng.chance(self.fails.beacon))
+            || (mode != self.session.mode && self.rng.chance(self.fails.mode))
+            || self.rng.within(0, 9_999) < self.fails.anywhere
     }
 
     /// Pulses that meet an end exactly or miss it by one: a distance about to be reached, the limit's final value,
@@ -306,7 +385,7 @@ impl Driver {
         }
         if let Reminder::Lit { age: 0, .. } = self.session.reminder {
             let age = if self.rng.chance(25) { self.rng.pick(&[1, 48, 49, 50, 51]) } else { self.rng.within(1, 49) };
-            if self.rng.chance(65) {
+            if self.rng.chance(self.care.reminded) {
                 self.press_in(age, 128);
             }
         }
