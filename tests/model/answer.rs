@@ -30,7 +30,8 @@ impl Session {
     }
 
     /// "Any cause puts the brake on; the first stands, lowest number within a sample. It goes off in a standstill
-    /// sample with rearm, if on before and no cause arises." Standstill is that of 02 b.
+    /// sample with rearm, if on before and no cause arises." Standstill is that of 02 b. "The lowest cause of a sample
+    /// stands: 300/12 is 5. On a braked desk 6 only keeps a rearm from working" (c6).
     pub fn brake(&mut self) {
         let lowest = self.arisen.iter().copied().min().unwrap_or(0);
         if self.cause == 0 {
@@ -42,7 +43,8 @@ impl Session {
 
     /// "Lamps, bits as buttons: what a window waits for, beacon 3's option, override armed or reminded, increase for
     /// stop (ages 0..99, till used), 6 when limit is removable, 10 when braked at standstill." That is "braked after the
-    /// brake step and at standstill, also with a fresh cause" (b7).
+    /// brake step and at standstill, also with a fresh cause" (b7). "Each sample with code 12 lights lamp bit 11, the
+    /// alarm" (02 c), "in both modes", and it "is dark in the next sample without 12" (c3).
     fn lamps(&self) -> u16 {
         let mut lamps = 0;
         for window in self.main_window.iter().chain(self.side_window.iter()) {
@@ -66,6 +68,9 @@ impl Session {
         }
         if self.cause != 0 && self.standstill {
             lamps |= 1 << 10;
+        }
+        if self.quiet() {
+            lamps |= 1 << 11;
         }
         lamps
     }

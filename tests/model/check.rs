@@ -78,7 +78,7 @@ fn papers_ride(checks: &mut Checks) -> io::Result<()> {
         ("no samples", unhex(CARD_A), unhex("000000060106"), "n limit lamps cause"),
         ("7", unhex(CARD_A), unhex("000000060107"), "refused 7"),
         ("card before recording", vec![], vec![], "refused 1"),
-        ("9", unhex(CARD_A), unhex("0000000c0106 00000c000001"), "refused 9"),
+        ("9", unhex(CARD_A), unhex("0000000c0106 00000d000001"), "refused 9"),
     ];
     for (name, card, ride, wanted) in refusals {
         let mut got = Vec::new();

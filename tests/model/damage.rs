@@ -8,7 +8,7 @@ use crate::steer::{fresh, run};
 /// A sample out of range: 9, 10 or 11, or the last one that is not.
 pub fn bend_sample(rng: &mut Rng, sample: &mut Sample, tick: u16) {
     match rng.within(0, 7) {
-        0 => sample.beacon = rng.pick(&[11, 12, 13, 255]),
+        0 => sample.beacon = rng.pick(&[12, 13, 14, 255]),
         1 => sample.buttons = rng.pick(&[2047, 2048, 4096, 65535]),
         2 => sample.mode = rng.pick(&[0, 3, 255]),
         3 | 4 | 5 => sample.pulses = (100_000 / tick as i64 + rng.pick(&[0, 1, 1, 2])).min(65_535) as u16,

@@ -1,4 +1,5 @@
-//! The session and the order of a sample: document 01, "The sample", with standstill as document 02 b has it.
+//! The session and the order of a sample: document 01, "The sample", with standstill as document 02 b has it
+//! and the quiet pickup as 02 c has it.
 
 use crate::card::{Settings, START};
 
@@ -12,6 +13,16 @@ pub const DISTANCE_TOP: i64 = 60_000_000;
 
 /// "standstill is ten accepted samples running without pulses, this one included" (02 b).
 pub const STANDING: i64 = 10;
+
+/// "The classifier's answer "nothing" becomes code 12 and no longer code 0" (02 c).
+pub const QUIET: u8 = 12;
+
+/// "outside BTS raises cause 6 as well" (02 c).
+pub const QUIET_CAUSE: u8 = 6;
+
+/// "Ranges: code 0..12, cause 0..6." (c7)
+pub const CODE_TOP: u8 = QUIET;
+pub const CAUSE_TOP: u8 = QUIET_CAUSE;
 
 /// A metre in the travel's unit, tenths of a millimetre.
 pub const METRE: i64 = 10_000;
@@ -74,7 +85,7 @@ pub enum Reminder {
     Pressed { samples: i64, distance: i64 },
 }
 
-/// "pulses (u16), beacon 0..11, buttons newly pressed (bits 0..10), mode 1 CONV or 2 BTS".
+/// "pulses (u16), beacon 0..11, buttons newly pressed (bits 0..10), mode 1 CONV or 2 BTS"; the beacon 0..12 (c7).
 #[derive(Clone, Copy, PartialEq, Debug, Default)]
 pub struct Sample {
     pub pulses: u16,
@@ -196,9 +207,9 @@ impl Session {
     }
 
     /// "sample 8, 9, 10, 11"; 8 cannot occur, "every session we make is inside". 11: mode changed "while not at
-    /// standstill" (02 b).
+    /// standstill" (02 b). "9 from code 13" (02 c); "No button 11: buttons above 2047 stay 9." (c7)
     fn refusal(&self, sample: &Sample) -> Option<u8> {
-        if sample.beacon > 11 || sample.buttons > 0b111_1111_1111 || (sample.mode != CONV && sample.mode != BTS) {
+        if sample.beacon > CODE_TOP || sample.buttons > 0b111_1111_1111 || (sample.mode != CONV && sample.mode != BTS) {
             return Some(9);
         }
         if sample.pulses as i64 * self.settings.tick as i64 > 100_000 {
@@ -239,6 +250,7 @@ impl Session {
             }
         }
         self.beacon(sample.beacon);
+        self.raise_quiet();
         self.turn_protected();
         self.s = self.supervised();
         if exceeds(self.m, self.s + 500) {
@@ -356,11 +368,13 @@ impl Session {
     }
 
     /// "A beacon is read when its code differs from that of the accepted sample before, of either mode, read or not."
-    /// In BTS "Beacons are not read save function 3's": 4, 9, 10, 11.
+    /// In BTS "Beacons are not read save function 3's": 4, 9, 10, 11. "Code 12 is no beacon, yet the code after it
+    /// counts as changed" (02 c): "12 becomes the last code in either mode ... Else it reads, sets, displaces, ends,
+    /// parts and speaks nothing." (c5)
     fn beacon(&mut self, code: u8) {
         let before = self.last_code;
         self.last_code = code;
-        if code == 0 || code == before {
+        if code == 0 || code == QUIET || code == before {
             return;
         }
         if self.mode == BTS && !(self.settings.function(3) && [4, 9, 10, 11].contains(&code)) {
@@ -370,6 +384,20 @@ impl Session {
             4 => self.read_4(),
             9 | 10 | 11 => self.read_side(code),
             _ => self.read_main(code),
+        }
+    }
+
+    /// Whether this sample has code 12: the last code is its own once the beacon step is done.
+    pub fn quiet(&self) -> bool {
+        self.last_code == QUIET
+    }
+
+    /// "Each sample with code 12 ... outside BTS raises cause 6 as well" (02 c), "not only the first" (c2). "The mode
+    /// after the mode step decides: entering BTS with 12 raises nothing, leaving with 12 raises 6. Function 3 does not
+    /// matter." (c4)
+    fn raise_quiet(&mut self) {
+        if self.quiet() && self.mode != BTS {
+            self.arises(QUIET_CAUSE);
         }
     }
 }

@@ -164,7 +164,7 @@ impl Driver {
             if self.rng.chance(25) {
                 // While moving, and out of range too: 9 or 10 goes before 11.
                 let too_many = (100_000 / self.tick() + 1) as u16;
-                let (pulses, beacon) = self.rng.pick(&[(1, 12), (too_many, 0)]);
+                let (pulses, beacon) = self.rng.pick(&[(1, 13), (too_many, 0)]);
                 return self.push(Sample { pulses, beacon, buttons: 0, mode: 3 - self.session.mode });
             }
             let early = self.rng.within(1, 8);

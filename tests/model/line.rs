@@ -202,14 +202,14 @@ impl Line {
         let sample = &mut self.samples[at];
         for _ in 0..rng.within(1, 2) {
             match rng.within(0, 8) {
-                0 => sample.beacon = rng.pick(&[11, 12]),
+                0 => sample.beacon = rng.pick(&[12, 13]),
                 1 => sample.buttons = rng.pick(&[0x07ff, 0x0700, 0x0800, 0x08ff]),
                 2 => sample.mode = rng.pick(&[0, 3]),
                 3 => sample.mode = rng.pick(&[1, 2]),
                 4 => sample.pulses = 0xffff,
                 5 => {
                     sample.pulses = 0xffff;
-                    sample.beacon = rng.pick(&[0, 11, 12, 255]);
+                    sample.beacon = rng.pick(&[0, 12, 13, 255]);
                 }
                 6 | 7 => sample.pulses = (100_000 / self.tick as u32 + rng.pick(&[0, 0, 1])) as u16,
                 _ => bend_sample(rng, sample, self.tick),

@@ -12,6 +12,7 @@ mod desk;
 mod kinds;
 mod line;
 mod make;
+mod notation;
 mod pieces;
 mod receive;
 mod receive_check;

@@ -3,7 +3,7 @@
 
 use crate::cards::unhex;
 use crate::cases::hex;
-use crate::desk::{train_speed, Sample};
+use crate::desk::{train_speed, Sample, CODE_TOP};
 use crate::receive::{line, Desk, Receiver, Status};
 use crate::ride;
 use std::collections::BTreeMap;
@@ -139,7 +139,7 @@ const ROWS: [&str; 69] = [
     "byte 0 is 0", "byte 0 is not 0", "byte 1 is 0", "byte 1 is not 0", "byte 2 is EA", "byte 2 is EB",
     "stated 0", "stated 6", "stated 7", "stated 12", "stated 60006", "stated 60007", "stated 60012",
     "version 1", "version 0", "version 2", "type 0", "the last type that is allowed", "the first that is not",
-    "beacon 11", "beacon 12", "buttons from 07", "buttons from 08", "mode 0", "mode 1", "mode 2", "mode 3",
+    "beacon 12", "beacon 13", "buttons from 07", "buttons from 08", "mode 0", "mode 1", "mode 2", "mode 3",
     "m 100,000", "refused 10", "mode changed at standstill", "refused 11 with pulses", "refused 11 without pulses",
     "pulses FFFF, then 9 by the beacon", "pulses FFFF, then the end",
     "all stated bytes in, open", "a byte past the stated length",
@@ -236,12 +236,12 @@ fn meet_byte(receiver: &Receiver, byte: u8, met: &mut Vec<String>) {
         return met.push("a byte past the stated length".into());
     }
     match (receiver.held.len(), byte) {
-        (2, 11 | 12) => met.push(format!("beacon {byte}")),
+        (2, 12 | 13) => met.push(format!("beacon {byte}")),
         (3, 7 | 8) => met.push(format!("buttons from {byte:02}")),
         (5, 0..=3) => met.push(format!("mode {byte}")),
         _ => {}
     }
-    if receiver.held.len() == 2 && byte > 11 && receiver.held == [0xff, 0xff] {
+    if receiver.held.len() == 2 && byte > CODE_TOP && receiver.held == [0xff, 0xff] {
         met.push("pulses FFFF, then 9 by the beacon".into());
     }
     if receiver.held.len() == 5 && (byte == 1 || byte == 2) {

@@ -1,7 +1,7 @@
 //! The ride over the serial line: document 02 a), as its readings a1 to a11 have it.
 
 use crate::card::{self, Settings};
-use crate::desk::{Answer, Sample, Session, BTS, CONV};
+use crate::desk::{Answer, Sample, Session, BTS, CODE_TOP, CONV};
 use std::fmt;
 
 /// How a line stands: it goes on, its good end was announced, or it is refused.
@@ -139,11 +139,11 @@ impl Receiver {
         Ok(())
     }
 
-    /// "in a sample 0–1 pulses, 2 beacon, 3–4 buttons, 5 mode" (a1). "9 is certain at a sample's byte 2 (above 11 ...),
-    /// 3 (above 7) or 5 (mode). 10 and 11 only at 5" (a4).
+    /// "in a sample 0–1 pulses, 2 beacon, 3–4 buttons, 5 mode" (a1). "9 is certain at a sample's byte 2 (above 11,
+    /// from c above 12), 3 (above 7) or 5 (mode). 10 and 11 only at 5" (a4).
     fn sample_byte(&mut self, byte: u8) -> Result<Option<Shown>, u8> {
         match self.held.len() {
-            2 if byte > 11 => return Err(9),
+            2 if byte > CODE_TOP => return Err(9),
             3 if byte > 7 => return Err(9),
             5 if byte != CONV && byte != BTS => return Err(9),
             5 => {}

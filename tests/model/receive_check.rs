@@ -118,11 +118,11 @@ fn ends(checks: &mut Checks) {
     }
 }
 
-/// "9 is certain at a sample's byte 2 (above 11 ...), 3 (above 7) or 5 (mode). 10 and 11 only at 5, since a 9 could still
-/// go before them: pulses FFFF, then beacon FF is 9; FFFF, then the end is 14." (a4)
+/// "9 is certain at a sample's byte 2 (above 11, from c above 12), 3 (above 7) or 5 (mode). 10 and 11 only at 5, since a 9
+/// could still go before them: pulses FFFF, then beacon FF is 9; FFFF, then the end is 14." (a4)
 fn samples(checks: &mut Checks) {
     faults(checks, &[
-        ("0000000C0106 00640B", None), ("0000000C0106 00640C", Some((8, 9))),
+        ("0000000C0106 00640C", None), ("0000000C0106 00640D", Some((8, 9))),
         ("0000000C0106 0064 0B07", None), ("0000000C0106 0064 0B08", Some((9, 9))),
         ("0000000C0106 FFFF 0B08", Some((9, 9))), ("0000000C0106 FFFF FF", Some((8, 9))),
         ("0000000C0106 0000 0B07FF 00", Some((11, 9))), ("0000000C0106 0000 0B07FF 01", None),
@@ -145,7 +145,7 @@ fn samples(checks: &mut Checks) {
     for before in ["0000000C0106", "000000120106 000000000001"] {
         let before = unhex(before);
         for byte in 0..=255 {
-            for (place, good) in [(0, true), (1, true), (2, byte <= 11), (3, byte <= 7), (4, true), (5, byte == 1 || byte == 2)] {
+            for (place, good) in [(0, true), (1, true), (2, byte <= 12), (3, byte <= 7), (4, true), (5, byte == 1 || byte == 2)] {
                 let line = [&before[..], &[0; 5][..place], &[byte]].concat();
                 let wanted = if good { None } else { Some((before.len() + place, 9)) };
                 checks.equal("a sample's byte", fault(&unhex(CARD_R), &line), wanted);
@@ -159,7 +159,7 @@ fn samples(checks: &mut Checks) {
 /// end comes with a piece, the piece is first. After a good end an empty piece or a second end changes nothing; a byte is
 /// 14." (a9)
 fn later_calls(checks: &mut Checks) {
-    let bad_third = "000000180106000000000001006407000001 00000CFF/00640000/./000000000001/";
+    let bad_third = "000000180106000000000001006407000001 00000DFF/00640000/./000000000001/";
     let wanted = format!("{}{}{}", LINES[0], LINES[1], "refused 9\n".repeat(5));
     checks.equal("a6, a7", said(CARD_A, bad_third), wanted);
     checks.equal("refused 14, then all", said(CARD_A, "01/000000/./."), "refused 14\n".repeat(5));
@@ -177,9 +177,9 @@ fn bad_twice(checks: &mut Checks) {
     let whole = |text: &str| ride::ride(&unhex(CARD_A), &unhex(text), |_, _| {});
     checks.equal("7", said(CARD_A, "0000000C0100/."), "refused 7\nrefused 7\n".into());
     checks.equal("the whole", whole("0000000C0100"), Some(14));
-    checks.equal("9", said(CARD_A, "000000120106000000000001 00000C/."), format!("{}refused 9\nrefused 9\n", LINES[0]));
-    checks.equal("the whole", whole("000000120106000000000001 00000C"), Some(14));
-    checks.equal("14", said(CARD_A, "000000120106000000000001 00000B/."), format!("{}open\nrefused 14\n", LINES[0]));
+    checks.equal("9", said(CARD_A, "000000120106000000000001 00000D/."), format!("{}refused 9\nrefused 9\n", LINES[0]));
+    checks.equal("the whole", whole("000000120106000000000001 00000D"), Some(14));
+    checks.equal("14", said(CARD_A, "000000120106000000000001 00000C/."), format!("{}open\nrefused 14\n", LINES[0]));
 }
 
 /// "The card is judged when the receiver starts, before any byte" (a11).

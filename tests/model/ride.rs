@@ -1,7 +1,7 @@
 //! A ride, whole: document 01, "A ride, whole".
 
 use crate::card;
-use crate::desk::{Answer, Main, Reminder, Sample, Session, BTS};
+use crate::desk::{Answer, Main, Reminder, Sample, Session, BTS, CAUSE_TOP};
 use crate::stand::Meter;
 use std::collections::BTreeMap;
 use std::io::Write;
@@ -112,7 +112,7 @@ pub fn cover(card: &[u8], bytes: &[u8]) -> BTreeMap<String, u64> {
         met.into_iter().for_each(&mut meets);
         let Ok(answer) = result else { return };
         meets("samples".into());
-        for cause in 1..=5 {
+        for cause in 1..=CAUSE_TOP {
             if session.arisen.contains(&cause) {
                 meets(format!("arose_{cause}"));
             }
@@ -121,7 +121,7 @@ pub fn cover(card: &[u8], bytes: &[u8]) -> BTreeMap<String, u64> {
             meets(format!("stood_{}", answer.cause));
         }
         last_cause = answer.cause;
-        for bit in 0..=10 {
+        for bit in 0..=11 {
             if answer.lamps >> bit & 1 == 1 {
                 meets(format!("lamp_{bit}"));
             }

@@ -3,7 +3,8 @@
 use crate::card::{self, Settings};
 use crate::cards::{unhex, CARD_A, CARD_R};
 use crate::check::Checks;
-use crate::desk::{Answer, Sample, Session, BTS, CONV};
+use crate::desk::{Session, BTS, CONV};
+use crate::notation::{on, run};
 use crate::ride;
 use crate::steer::make_ride;
 
@@ -21,27 +22,6 @@ pub fn all(checks: &mut Checks) {
     crawling(checks);
     top(checks);
     from_the_history(checks);
-}
-
-fn on(card: &str) -> Session {
-    Session::open(card::read(2, &unhex(card)).unwrap(), 6).unwrap()
-}
-
-/// "A sample is pulses/beacon/buttons/mode, trailing zeros and mode 1 left out, n× repeats." What each is answered with;
-/// the session goes on behind a refused one.
-fn run(session: &mut Session, text: &str) -> Vec<Result<Answer, u8>> {
-    let mut answers = Vec::new();
-    for words in text.split(", ") {
-        let (times, fields) = words.split_once('×').unwrap_or(("1", words));
-        let fields: Vec<u16> = fields.split('/').map(|field| field.parse().unwrap()).collect();
-        let field = |place: usize, left_out: u16| fields.get(place).copied().unwrap_or(left_out);
-        let (beacon, mode) = (field(1, 0) as u8, field(3, 1) as u8);
-        let sample = Sample { pulses: field(0, 0), beacon, buttons: field(2, 0), mode };
-        for _ in 0..times.parse().unwrap() {
-            answers.push(session.sample(sample));
-        }
-    }
-    answers
 }
 
 /// What the last sample of a ride is answered with: its cause or its refusal.
@@ -79,7 +59,7 @@ fn opened(checks: &mut Checks) {
 /// "1, 9×0, 0/0/0/2 is accepted, with 8×0 it is 11." (b3) The order stays 8, 9, 10, 11.
 fn mode_change(checks: &mut Checks) {
     causes(checks, &[("1, 9×0, 0/0/0/2", Ok(0)), ("1, 8×0, 0/0/0/2", Err(11)), ("1, 9×0, 1/0/0/2", Err(11))]);
-    causes(checks, &[("1, 0/12/0/2", Err(9)), ("1, 0/0/2048/2", Err(9))]);
+    causes(checks, &[("1, 0/13/0/2", Err(9)), ("1, 0/0/2048/2", Err(9))]);
     causes(checks, &[("1, 1001/0/0/2", Err(10)), ("1, 1000/0/0/2", Err(11))]);
     for zeros in 1..=40 {
         let wanted = if zeros >= 9 { Ok(0) } else { Err(11) };
@@ -118,7 +98,7 @@ fn lamp(checks: &mut Checks) {
 /// "A refused sample neither counts nor breaks the run." (b4) Ones that are refused for a value, for too many pulses, for
 /// the mode with a pulse and without.
 fn refused_in_the_run(checks: &mut Checks) {
-    for (refused, number) in [("1001", 10), ("0/12", 9), ("1/12", 9), ("0/0/0/3", 9), ("1/0/0/2", 11), ("0/0/0/2", 11)] {
+    for (refused, number) in [("1001", 10), ("0/13", 9), ("1/13", 9), ("0/0/0/3", 9), ("1/0/0/2", 11), ("0/0/0/2", 11)] {
         causes(checks, &[
             (&format!("300, 5×0, {refused}"), Err(number)),
             (&format!("300, 5×0, {refused}, 4×0, 0/0/1024"), Ok(0)),

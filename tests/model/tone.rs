@@ -1,6 +1,7 @@
 //! The tone sheet and the classifier: document 01, "Tones".
 
 use crate::card::{big_endian, refused_at, Refusal};
+use crate::desk::QUIET;
 
 /// "A tone sheet row holds its low, centre and high kHz."
 #[derive(Clone, Copy)]
@@ -77,10 +78,12 @@ pub fn classify(area: &[u8], tone: f32) -> Result<Tone, Refusal> {
     Ok(Tone::Nothing)
 }
 
-/// "The ride's beacon code is 0 for permanent or nothing."
+/// "The ride's beacon code is 0 for permanent"; that "of "nothing" (not-a-number, infinities, outside all rows) is 12"
+/// (c1).
 pub fn beacon_code(tone: &Tone) -> u8 {
     match tone {
         Tone::Beacon(number, _) => *number,
-        Tone::Permanent(_) | Tone::Nothing => 0,
+        Tone::Permanent(_) => 0,
+        Tone::Nothing => QUIET,
     }
 }
