@@ -1,5 +1,5 @@
-"""The desk's names and forms, for programs that say in words what the proved ones answer: buttons, beacons, causes, refusals; a card,
-a recording and the lines of `trace`. Nothing here decides what the desk answers."""
+"""The desk's names and forms, for programs that say in words what the proved ones answer: buttons, lamps, beacons, causes, refusals; a
+card, a recording and the lines of `trace`. Nothing here decides what the desk answers."""
 
 import pathlib
 import sys
@@ -15,13 +15,16 @@ sys.path.insert(0, str(ROOT / "lessons"))
 import script  # noqa: E402
 
 BUTTONS = script.BUTTONS
+LAMPS = [*BUTTONS, "alarm"]  # a button's lamp has its bit; the alarm has no button
 
 BEACONS = [
     None, "announcement or other", "conditional clear", "clear", "protected crossing", "preannouncement", "caution", "before-stop",
     "stop", "crossing or limit", "limit", "limit",
 ]
+QUIET = script.QUIET
 CAUSES = [
     None, "a main window missed", "a side window missed", "a reminder missed", "a stop signal passed without override", "too fast",
+    "the pickup is quiet",
 ]
 ICONS = ["none", "protected", "unprotected"]
 MODES = {1: "CONV", 2: "BTS"}
@@ -53,8 +56,8 @@ OF_RECORDING = 14
 
 
 def names(mask):
-    """The buttons, or their lamps, of a mask."""
-    return [name for bit, name in enumerate(BUTTONS) if mask >> bit & 1]
+    """The names of the lamps, or of the buttons, of a mask."""
+    return [name for bit, name in enumerate(LAMPS) if mask >> bit & 1]
 
 
 # ---- what a ride is made of
@@ -125,9 +128,14 @@ class Ride:
         return list(zip(self.samples, self.answers))
 
     def passes(self, i):
-        """The beacon that the train comes to at sample i (from 0), 0 if none: its code differs from that of the sample before."""
+        """The beacon that the train comes to at sample i (from 0), 0 if none: its code differs from that of the sample before, and is
+        not that of a quiet pickup."""
         beacon, before = self.samples[i].beacon, self.samples[i - 1].beacon if i else 0
-        return beacon if beacon != before else 0
+        return beacon if beacon not in (before, QUIET) else 0
+
+    def is_quiet(self, i):
+        """Is the pickup quiet at sample i? It is not before the first."""
+        return i >= 0 and self.samples[i].beacon == QUIET
 
     def reads(self, i):
         """Is a beacon to which the train comes at sample i read? In BTS only function 3 reads some."""
@@ -152,7 +160,7 @@ def range_fault(sample):
     """Refusal 9: each of the three that is out of its range."""
     highest = sample.buttons.bit_length() - 1
     faults = [
-        f"beacon {sample.beacon}, must be 0..{len(BEACONS) - 1}" if sample.beacon >= len(BEACONS) else None,
+        f"beacon {sample.beacon}, must be 0..{QUIET}" if sample.beacon > QUIET else None,
         f"button {highest}, must be 0..{len(BUTTONS) - 1}" if highest >= len(BUTTONS) else None,
         f"mode {sample.mode}, must be 1 or 2" if sample.mode not in MODES else None,
     ]

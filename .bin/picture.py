@@ -11,8 +11,9 @@ from drawing import GROUND, LEFT, LINE, LINES, NET, RIGHT, WIDTH, Drawing, Scale
 USAGE = """usage: ./picture [--distance] [--title TITLE] CARD < RECORDING > ride.svg
 
 Draws a ride as an SVG for a browser or a printer: the train's speed and its limit over time, the band of 5 km/h above the limit, the
-brake with its cause, lamps as bars, presses and beacons as marks, the crossing icon and the limit control. --distance draws over the
-distance travelled. The title is the lesson's where the recording's file has a lesson's name. A refusal ends the drawing."""
+brake with its cause, lamps as bars, marks for presses, beacons and a pickup that goes quiet, the crossing icon and the limit control.
+--distance draws over the distance travelled. The title is the lesson's where the recording's file has a lesson's name. A refusal ends
+the drawing."""
 
 CHART = 330  # the height of the speeds
 LANE, BAR = 19, 11  # the height of a row below them, and of its bars
@@ -21,6 +22,7 @@ BAND = 5  # km/h above the limit; beyond it the brake comes on
 JUMP = 3  # km/h; a change beyond it is drawn upright
 NARROW = 1.5  # the least width of a bar
 MANY = 60  # beacons, beyond which they have a short line each
+QUIET_MARK = "Q"  # where beacons have their numbers alone, a pickup that goes quiet
 SECONDS = [0.1, 0.2, 0.5, 1, 2, 5, 10, 15, 30, 60, 120]  # from a mark of the axis to the next
 METRES = [0.1, 0.2, 0.5, 1, 2, 5, 10, 20, 50, 100, 200, 500, 1000, 2000, 5000]
 
@@ -79,15 +81,18 @@ class Picture:
         self.drawing.text(LEFT, 68, f"Refused {self.ride.refusal}: {self.ride.why()}.", "strong")
         return 84
 
-    # ---- beacons, above the speeds
+    # ---- beacons, and where the pickup goes quiet, above the speeds
 
     def beacon_marks(self):
-        """Where the train comes to a beacon, and what that is called: with its name, and by number alone."""
+        """Where the train comes to a beacon, and what that is called: with its name, and by number alone. So too where the pickup goes
+        quiet; how long is seen by the lamp of the alarm."""
         for i in range(len(self.samples)):
             beacon = self.ride.passes(i)
             if beacon:
                 words = f"{beacon} {desk.BEACONS[beacon]}", str(beacon)
                 yield self.at(i), *(words if self.ride.reads(i) else (f"({said})" for said in words))
+            elif self.ride.is_quiet(i) and not self.ride.is_quiet(i - 1):
+                yield self.at(i), "pickup quiet", QUIET_MARK
 
     def beacons(self, top):
         """The beacons, with their names where there is room for all of them."""
@@ -101,14 +106,17 @@ class Picture:
         shown = [label for label in labels if label.row is not None]
         chart = top + LINE * (max((label.row for label in shown), default=0) + 1) + 8
         kind, end = ("tick", chart + 6) if len(found) > MANY else ("beacon", chart + CHART)
-        self.drawing.text(LEFT - 10, chart - 8, "beacons", "right")
+        codes = {sample.beacon for sample in self.samples}
+        numbers, is_quiet = sorted(codes - {0, desk.QUIET}), desk.QUIET in codes
+        self.drawing.text(LEFT - 10, chart - 8, "beacons" if numbers else "pickup", "right")
         for label in labels:
             self.drawing.line(label.mark, chart - 4 - LINE * (label.row or 0), label.mark, end, kind, LINES)
         for label in shown:
             self.drawing.text(label.start + 1, chart - 7 - LINE * label.row, label.words, "small halo")
-        self.legend.append(("beacon", "beacon" + counted(len(shown), len(found))))
+        kinds = ["beacon"] * bool(numbers) + ["pickup quiet"] * is_quiet
+        self.legend.append(("beacon", ", or ".join(kinds) + counted(len(shown), len(found))))
         if not is_named:
-            self.legend += [(None, f"{k} {desk.BEACONS[k]}") for k in sorted({sample.beacon for sample in self.samples} - {0})]
+            self.legend += [(None, f"{k} {desk.BEACONS[k]}") for k in numbers] + [(None, f"{QUIET_MARK} pickup quiet")] * is_quiet
         if any(label.words.startswith("(") for label in labels):
             self.legend.append((None, "in brackets: passed in BTS, not read"))
         return chart
@@ -214,9 +222,9 @@ class Picture:
         return top + LANE + LINE * (max((label.row for label in shown), default=0) + 1) + 2
 
     def buttons(self, top):
-        """A row for each button that is lit or pressed: bars are its lamp, marks its presses."""
+        """A row for each button that is lit or pressed: bars are its lamp, marks its presses. The alarm is a lamp alone."""
         lit = pressed = False
-        for bit, name in enumerate(desk.BUTTONS):
+        for bit, name in enumerate(desk.LAMPS):
             lamps = [answer.lamps >> bit & 1 for answer in self.ride.answers]
             presses = [self.at(i) for i, sample in enumerate(self.samples) if sample.buttons >> bit & 1]
             if any(lamps) or presses:

@@ -11,8 +11,9 @@ USAGE = """usage: ./tell [--title TITLE] CARD < RECORDING
 
 Tells a ride as a page: a line for each sample at which something changes, with its number and time, the metres travelled with it,
 the train's speed and its limit in km/h, and in words what is pressed and read, lamps, brake, crossing icon and limit. The train stands
-from the tenth sample running without pulses on, and moves from the next pulse on. The title is the lesson's where the recording's file
-has a lesson's name. A refusal ends the page."""
+from the tenth sample running without pulses on, and moves from the next pulse on. The pickup is quiet while it hears nothing, not even
+the permanent tone, and back when it hears something. The title is the lesson's where the recording's file has a lesson's name. A refusal
+ends the page."""
 
 HEADING = f"{'n':>5} {'time':>7} {'metres':>8} {'speed':>7} {'limit':>7}   what happens"
 WIDTH = 120
@@ -56,13 +57,15 @@ def limit_words(answers, i):
 
 
 def driven(ride, i, sample, last):
-    """What the recording has new at a sample: mode, motion, presses, beacon."""
+    """What the recording has new at a sample: mode, motion, presses, pickup, beacon."""
     if sample.mode != last.mode:
         yield f"mode {desk.MODES[sample.mode]}"
     if ride.standstill[i] != (ride.standstill[i - 1] if i else True):
         yield "stands" if ride.standstill[i] else "moves"
     if sample.buttons:
         yield f"press: {listed(desk.names(sample.buttons))}"
+    if ride.is_quiet(i) != ride.is_quiet(i - 1):
+        yield "pickup quiet" if ride.is_quiet(i) else "pickup back"
     beacon = ride.passes(i)
     if beacon:
         said = f"beacon {beacon}, {desk.BEACONS[beacon]}"

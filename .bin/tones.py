@@ -14,9 +14,9 @@ import programs
 USAGE = """usage: ./show_tones SHEET [TONE ..] [< TONES]
 
 Says what each tone reads as under the sheet in the file SHEET: a beacon or the permanent tone, with the offset from the row's
-centre, or nothing. A TONE is a decimal number of kHz, as 60.76, or the eight hexadecimal digits of an f32 in kHz, as 42730a3d.
-Without one, tones come on standard input, a line each, in the same forms. With tones, SHEET may be -, the sheet on standard input.
-A decimal is rounded to the nearest f32, once."""
+centre, or nothing, which is code 12 of a ride, the quiet pickup. A TONE is a decimal number of kHz, as 60.76, or the eight hexadecimal
+digits of an f32 in kHz, as 42730a3d. Without one, tones come on standard input, a line each, in the same forms. With tones, SHEET may
+be -, the sheet on standard input. A decimal is rounded to the nearest f32, once."""
 
 STANDARD_INPUT = ("-", "/dev/stdin", "/dev/fd/0", "/proc/self/fd/0")
 
@@ -27,7 +27,7 @@ NOT_A_TONE = "not a tone: "
 
 BITS = re.compile(r"[0-9A-Fa-f]{8}")
 DECIMAL = re.compile(r"([+-]?(?:[0-9]+\.?[0-9]*|\.[0-9]+))(?:[ \t]*kHz)?", re.IGNORECASE)
-ANSWER = re.compile(r"([0-9a-f]{8}) (?:nothing|(?:permanent|beacon [0-9]+) offset ([0-9a-f]{8}))")
+ANSWER = re.compile(r"([0-9a-f]{8}) (?:nothing code 12|(?:permanent|beacon [0-9]+) offset ([0-9a-f]{8}))")
 
 
 def float_of(bits):

@@ -22,6 +22,7 @@ BUTTONS = [
     "limit", "override", "increase", "hide", "rearm",
 ]
 BEACONS = 11
+QUIET = 12  # the code of a quiet pickup, which is no beacon
 CONV, BTS = 1, 2
 TYPES = [80, 90, 100, 120, 140, 160, 180, 200]  # km/h, types 1 to 8
 MOST_SAMPLES = 10_000
@@ -157,6 +158,7 @@ NAMES = {
     "press": {name.replace(" ", "-"): bit for bit, name in enumerate(BUTTONS)},
     "beacon": {f"L{code}": code for code in range(1, BEACONS + 1)},
     "mode": {"CONV": CONV, "BTS": BTS},
+    "pickup": {"quiet": QUIET},
 }
 HIGH = {"press": 15, "beacon": 255, "mode": 255}  # what a recording has room for
 
@@ -166,24 +168,25 @@ def out_of_range(kind, value):
     if kind == "press":
         return f"button {value}: the buttons are 0 to {len(BUTTONS) - 1}"
     if kind == "beacon":
-        return f"beacon {value}: the beacons are 1 to {BEACONS}, and 0 is none"
+        return f"beacon {value}: the beacons are 1 to {BEACONS}; 0 is none, {QUIET} a quiet pickup"
     return f"mode {value}: the modes are {CONV} (CONV) and {BTS} (BTS)"
 
 
 def named(path, number, kind, word):
     """The number that a word says, or that of the name which it is."""
-    if word.isdecimal():
+    if word.isdecimal() and kind in HIGH:
         if len(word.lstrip("0")) > 3 or int(word) > HIGH[kind]:
             stop(path, number, out_of_range(kind, word))
         return int(word)
     for name, value in NAMES[kind].items():
         if word.lower() == name.lower():
             return value
-    stop(path, number, f"'{kind}' does not know '{word}': it takes {', '.join(NAMES[kind])}, or their numbers")
+    numbers = ", or their numbers" if kind in HIGH else ""
+    stop(path, number, f"'{kind}' does not know '{word}': it takes {', '.join(NAMES[kind])}{numbers}")
 
 
 def extras(path, number, words):
-    """What may follow the speeds of a line: beacon, buttons mask, mode."""
+    """What may follow the speeds of a line: the code of the first sample, that of the others, buttons mask, mode."""
     said = {}
     i = 0
     while i < len(words):
@@ -200,10 +203,13 @@ def extras(path, number, words):
         if not values or (kind != "press" and len(values) > 1):
             stop(path, number, f"'{kind}' takes {'one or more buttons' if kind == 'press' else 'one word'}")
         said[kind] = values
+    if "beacon" in said and "pickup" in said:
+        stop(path, number, "'beacon' and 'pickup' stand in one line: a quiet pickup hears no beacon")
     mask = 0
     for bit in said.get("press", []):
         mask |= 1 << bit
-    return said.get("beacon", [0])[0], mask, said.get("mode", [CONV])[0]
+    code = said.get("pickup", [0])[0]
+    return said.get("beacon", [code])[0], code, mask, said.get("mode", [CONV])[0]
 
 
 def pulses(path, number, card, speed):
@@ -316,15 +322,15 @@ def read_head(ride, number, words):
 
 
 def read_samples(ride, number, words):
-    """A line of samples: beacon and presses hold in the first of them, the mode in all."""
+    """A line of samples: beacon and presses hold in the first of them, mode and pickup in all."""
     words = speed_words(words)
     if words[0] == "ramp":
         speeds, rest = ramp(ride.path, number, words[1:], ride.card)
     else:
         speeds, rest = steady(ride.path, number, words, ride.card)
-    beacon, mask, mode = extras(ride.path, number, rest)
+    first, code, mask, mode = extras(ride.path, number, rest)
     for i, p in enumerate(speeds):
-        ride.samples.append((p, 0 if i else beacon, 0 if i else mask, mode))
+        ride.samples.append((p, code if i else first, 0 if i else mask, mode))
         ride.sample_lines.append(number)
 
 
@@ -398,7 +404,7 @@ def card_fault(card):
 def sample_fault(card, before, count, sample):
     """What the desk refuses in a sample after one of mode `before`, as (number, sentence), or None; with it `count` run without pulses."""
     p, beacon, mask, mode = sample
-    if beacon > BEACONS:
+    if beacon > QUIET:
         return 9, out_of_range("beacon", beacon)
     if mask >> len(BUTTONS):
         return 9, out_of_range("press", mask.bit_length() - 1)
@@ -507,7 +513,7 @@ def said(sample):
     p, beacon, mask, mode = sample
     words = [f"{p} pulses"]
     if beacon:
-        words.append(f"beacon {beacon}")
+        words.append("pickup quiet" if beacon == QUIET else f"beacon {beacon}")
     for bit in range(16):
         if mask >> bit & 1:
             name = BUTTONS[bit] if bit < len(BUTTONS) else "no button"
