@@ -1,7 +1,7 @@
 -- "Lamps, bits as buttons": which lamp lights a bit of the answer's mask.
 use Prim.Native.Nat.{ℕ, zero, suc, _^_, _/_, _%_, _<_}
 use native.Mathlib.Omega.{arith}
-use native.Mathlib.Nat.{mod-lt, zero-lt-suc, pow-suc, div-eq-of-lt, zero-div}
+use native.Mathlib.Nat.{mod-lt, zero-lt-suc, one-le-pow, pow-suc, div-eq-of-lt, div-one, zero-div, mul-mod-left, mul-div-mul-right}
 use mathlib.Core.Path.{_≡_, refl, sym, ap, _∙_, subst}
 use mathlib.Core.Bool.{Bool, true, false, _&&_, _||_, not}
 use lib.Dec.{leb, eqb, lit<}
@@ -16,7 +16,7 @@ use Rattle.signals.specs.MainControl.{increaseLit}
 use Rattle.signals.specs.Stop.{isLit}
 use Rattle.desk.specs.declared.brake.Brake.{Brake}
 use Rattle.desk.specs.declared.state.Desk.{Desk}
-use Rattle.desk.specs.State.{withBrake}
+use Rattle.desk.specs.State.{withBrake, withCode}
 use Rattle.step.specs.Brake.{lampIf, windowLamps, controlLamps, buttonLamps, alarmLamp, lampsOf}
 
 -- ---- bit k of two masks put together is the one's or the other's
@@ -140,25 +140,25 @@ module _ (removable still : Bool) (d : Desk) where
 
 -- ---- all lamps but 10
 
--- 2 to the k is above 1024 from 2048 on
-past-rearm : (k : ℕ) → rearmButton < 2 ^ (suc (suc (suc (suc (suc (suc (suc (suc (suc (suc (suc k)))))))))))
-past-rearm zero = lit< tt
-past-rearm (suc k) = let h = past-rearm k in subst (λ (n : ℕ). rearmButton < n) (sym (pow-suc 2 (suc (suc (suc (suc (suc (suc (suc (suc (suc (suc (suc k))))))))))))) (omega arith)
+-- a number that is one bit has no other
+other-bit : (j k : ℕ) → (k ≡ j → ⊥) → bitOf (2 ^ j) (2 ^ k) ≡ false
+other-bit zero zero h = absurd (h refl)
+other-bit zero (suc k) h =
+    let some = one-le-pow k 2 (zero-lt-suc 1) in
+    let more : 1 < 2 ^ suc k = rw (pow-suc 2 k) (omega arith) in
+    ap (λ (n : ℕ). eqb (n % 2) 1) (div-eq-of-lt more)
+other-bit (suc j) zero h = ap (λ (n : ℕ). eqb (n % 2) 1) (div-one (2 ^ suc j) ∙ pow-suc 2 j) ∙ ap (λ (n : ℕ). eqb n 1) (mul-mod-left (2 ^ j) 2)
+other-bit (suc j) (suc k) h =
+    let halved : 2 ^ suc j / 2 ^ suc k ≡ 2 ^ j / 2 ^ k = rw (pow-suc 2 j, pow-suc 2 k) (mul-div-mul-right (2 ^ j) (2 ^ k) (zero-lt-suc 1)) in
+    ap (λ (n : ℕ). eqb (n % 2) 1) halved ∙ other-bit j k (λ e. h (ap suc e))
 
--- rearm's lamp lights none of their bits
-rearm-dark : (k : ℕ) → (k ≡ 10 → ⊥) → bitOf rearmButton (2 ^ k) ≡ bitOf 0 (2 ^ k)
-rearm-dark zero h = refl
-rearm-dark (suc zero) h = refl
-rearm-dark (suc (suc zero)) h = refl
-rearm-dark (suc (suc (suc zero))) h = refl
-rearm-dark (suc (suc (suc (suc zero)))) h = refl
-rearm-dark (suc (suc (suc (suc (suc zero))))) h = refl
-rearm-dark (suc (suc (suc (suc (suc (suc zero)))))) h = refl
-rearm-dark (suc (suc (suc (suc (suc (suc (suc zero))))))) h = refl
-rearm-dark (suc (suc (suc (suc (suc (suc (suc (suc zero)))))))) h = refl
-rearm-dark (suc (suc (suc (suc (suc (suc (suc (suc (suc zero))))))))) h = refl
-rearm-dark (suc (suc (suc (suc (suc (suc (suc (suc (suc (suc zero)))))))))) h = absurd (h refl)
-rearm-dark (suc (suc (suc (suc (suc (suc (suc (suc (suc (suc (suc k))))))))))) h = ap (λ (n : ℕ). eqb (n % 2) 1) (div-eq-of-lt (past-rearm k) ∙ sym (zero-div (2 ^ (suc (suc (suc (suc (suc (suc (suc (suc (suc (suc (suc k))))))))))))))
+no-bit : (k : ℕ) → bitOf 0 (2 ^ k) ≡ false
+no-bit k = ap (λ (n : ℕ). eqb (n % 2) 1) (zero-div (2 ^ k))
+
+-- so a lamp leaves the bits of others dark
+lamp-else : (j k : ℕ) → (k ≡ j → ⊥) → (lit : Bool) → bitOf (lampIf lit (2 ^ j)) (2 ^ k) ≡ false
+lamp-else j k h true = other-bit j k h
+lamp-else j k h false = no-bit k
 
 -- bit k of a mask put together with another, where the other's bit k is the same
 or-same : (k a b c : ℕ) → bitOf b (2 ^ k) ≡ bitOf c (2 ^ k) → bitOf (bitOr a b) (2 ^ k) ≡ bitOf (bitOr a c) (2 ^ k)
@@ -173,8 +173,13 @@ lamps-else k h removable still b d =
     (or-same k (windowLamps d) _ _
     (or-same k (lampIf removable limitButton) _ _
     (or-same k (lampIf (d .armed .armed || isLit (d .reminder .phase)) overrideButton) _ _
-    (or-same k (lampIf (increaseLit (d .main)) increaseButton) _ _ (unlit (still && not (eqb (b .cause) 0)))))))
-  where
-    unlit : (lit : Bool) → bitOf (lampIf lit rearmButton) (2 ^ k) ≡ bitOf 0 (2 ^ k)
-    unlit true = rearm-dark k h
-    unlit false = refl
+    (or-same k (lampIf (increaseLit (d .main)) increaseButton) _ _ (lamp-else 10 k h (still && not (eqb (b .cause) 0)) ∙ sym (no-bit k))))))
+
+-- ---- all lamps but 11: those of the buttons, whatever the code is
+
+pub lamps-code : (k : ℕ) → (k ≡ 11 → ⊥) → (removable still : Bool) (code : ℕ) (d : Desk)
+    → bitOf (lampsOf removable still (withCode code d)) (2 ^ k) ≡ bitOf (buttonLamps removable still d) (2 ^ k)
+unfolding lampsOf buttonLamps windowLamps controlLamps
+lamps-code k h removable still code d =
+    or-bit k (lampIf (eqb code quietCode) alarmLamp) (buttonLamps removable still d)
+    ∙ ap (λ (t : Bool). t || bitOf (buttonLamps removable still d) (2 ^ k)) (lamp-else 11 k h (eqb code quietCode))

@@ -13,3 +13,4 @@ pub mod Missed
 pub mod Speed
 pub mod Brake
 pub mod Unseen
+pub mod Quiet

@@ -5,3 +5,4 @@ pub mod Unanswered
 pub mod Speed
 pub mod Brake
 pub mod Unseen
+pub mod Quiet

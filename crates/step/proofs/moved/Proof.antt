@@ -1,10 +1,10 @@
 use borrow.Author.Needs.{needs}
 use Prim.Native.Nat.{ℕ}
-use mathlib.Core.Path.{_≡_, refl, sym, _∙_}
+use mathlib.Core.Path.{_≡_, refl}
 use mathlib.Core.Bool.{Bool, true, false, _&&_, _||_, not}
 use lib.Dec.{eqb}
 use borrow.Author.Tests.{eqb-true}
-use Rattle.leaf.specs.Choosing.{pick, and-split}
+use Rattle.leaf.specs.Choosing.{and-split}
 use Rattle.card.specs.declared.Settings.{Settings}
 use Rattle.card.specs.Card.{protects, zones, reminds, readsInBts}
 use Rattle.desk.specs.declared.state.Desk.{Desk}
@@ -15,7 +15,7 @@ use Rattle.buttons.specs.Buttons.{pressesOf}
 use Rattle.beacons.specs.Beacons.{isBeacon, isSide, readsOf, readIf, beaconTaken}
 use Rattle.step.proofs.moved.Statement.{statement}
 use Rattle.step.proofs.moved.Tie as tie
-use Rattle.step.specs.Brake.{lowest}
+use Rattle.step.proofs.Lowest.{lowest-alone}
 use Rattle.step.specs.Step.{movedOf}
 use Rattle.step.specs.declared.Input.{Input}
 
@@ -32,14 +32,6 @@ reads-nothing code f3 bts last e = rw e (cases (isBeacon code))
 code-again : (code : ℕ) (f0 f1 f3 : Bool) (d : Desk) → eqb code (d .code) ≡ true → beaconTaken code f0 f1 f3 d ≡ record { desk = d; cause = 0 }
 unfolding beaconTaken readIf
 code-again code f0 f1 f3 d e = rw (reads-nothing code f3 (d .bts) (d .code) e, eqb-true code (d .code) e)
-
-lowest-alone : (cause : ℕ) → lowest cause 0 ≡ cause
-unfolding lowest
-lowest-alone cause = cases (eqb cause 0) refl
-  where
-    cases : (t : Bool) → eqb cause 0 ≡ t → pick t 0 cause ≡ cause
-    cases true e = sym (eqb-true cause 0 e)
-    cases false e = refl
 
 goes-on : (s : Settings) (top : ℕ) (x : Input) (d : Desk) (first : Turn) → first ≡ begun (x .bts) (x .m) (reminds (s .functions)) (s .x) (s .y) d
     → (eqb (x .buttons) 0 && eqb (x .beacon) (first .desk .code)) ≡ true → first ≡ movedOf s top x d

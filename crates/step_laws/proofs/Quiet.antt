@@ -1,0 +1,211 @@
+-- A quiet pickup, of every sample: the alarm, cause 6, and that nothing else comes of it.
+use Prim.Native.Nat.{ℕ, _^_, _≤_, min}
+use native.Mathlib.Omega.{arith}
+use mathlib.Core.Path.{_≡_, refl, sym, ap, _∙_}
+use mathlib.Core.Bool.{Bool, true, false, _&&_, not}
+use mathlib.Core.Logic.{_↔_}
+use lib.Dec.{leb, eqb}
+use lib.Bits.{bitOr, or-zero-l}
+use borrow.Author.Tests.{le-leb, eqb-true, eq-eqb, ne-eqb, not-true}
+use Rattle.leaf.specs.Choosing.{pick, and-split}
+use Rattle.leaf.specs.Numbers.{quietCode, bitOf}
+use Rattle.leaf.specs.Buttons.{rearmButton}
+use Rattle.card.specs.declared.Settings.{Settings}
+use Rattle.card.specs.Card.{protects, zones, reminds, readsInBts}
+use Rattle.sides.specs.Crossing.{iconOf}
+use Rattle.sides.specs.Limit.{removable}
+use Rattle.desk.specs.declared.brake.Brake.{Brake}
+use Rattle.desk.specs.declared.state.Desk.{Desk}
+use Rattle.desk.specs.declared.clock.Turn.{Turn}
+use Rattle.desk.specs.Brake.{standstill}
+use Rattle.desk.specs.State.{withBrake, withCode}
+use Rattle.desk.specs.Clock.{begun}
+use Rattle.beacons.specs.Beacons.{isBeacon, readsOf, readIf, beaconTaken}
+use Rattle.step.specs.declared.Input.{Input}
+use Rattle.step.specs.declared.Answer.{Answer}
+use Rattle.step.specs.declared.Stepped.{Stepped}
+use Rattle.step.specs.Speed.{crossingTurned, supervisedOf}
+use Rattle.step.specs.Brake.{lowest, braked, lampIf, buttonLamps, alarmLamp, lampsOf}
+use Rattle.step.specs.Step.{movedOf, answerOf, speedCause, quietCause, aroseOf, judgedOf, stepOf}
+use Rattle.step.proofs.Lowest.{lowest-alone}
+use Rattle.step_laws.specs.Walk.{atBeacon}
+use Rattle.step_laws.specs.Unanswered.{reads}
+use Rattle.step_laws.specs.Quiet.{answerBefore, judgedBefore, stepBefore, withBeacon, QuietLaws, OnlyAlarm}
+use Rattle.step_laws.proofs.Choosing.{not-so}
+use Rattle.step_laws.proofs.Carried.{moved-carries, carried-laws}
+use Rattle.step_laws.proofs.Causes.{to-speed}
+use Rattle.step_laws.proofs.Lamps.{lamp-alarm, lamps-else, lamps-code}
+
+-- ---- on numbers
+
+-- beside a lower cause 6 is not seen
+six-behind : (a : ℕ) → (a ≡ 0 → ⊥) → a ≤ 5 → (q : Bool) → lowest a (pick q 6 0) ≡ a
+unfolding lowest
+six-behind a n low true = rw (ne-eqb a 0 n) (omega arith)
+six-behind a n low false = lowest-alone a
+
+-- a code that is no beacon's is remembered, and that is all
+unread-taken : (code : ℕ) → isBeacon code ≡ false → (f0 f1 f3 : Bool) (d : Desk) → beaconTaken code f0 f1 f3 d ≡ record { desk = withCode code d; cause = 0 }
+unfolding beaconTaken readIf readsOf
+unread-taken code h f0 f1 f3 d = rw h
+
+-- without 12 the answer has no alarm
+answer-as : (s : Settings) (top m : ℕ) (still : Bool) (speed : ℕ) (d : Desk) → (d .code ≡ 12 → ⊥) → answerOf s top m still speed d ≡ answerBefore s top m still speed d
+unfolding answerOf answerBefore lampsOf
+answer-as s top m still speed d h =
+    let lamps : ℕ = buttonLamps (removable m (s .limit .last) top (d .beside .limit)) still d in
+    ap (λ (t : Bool). told (bitOr (lampIf t alarmLamp) lamps)) (ne-eqb (d .code) quietCode h) ∙ ap told (or-zero-l lamps)
+  where
+    told : ℕ → Answer
+    told lamps = record { speed = speed; lamps = lamps; cause = d .brake .cause; icon = iconOf (d .beside .crossing); limit = d .beside .limit .on }
+
+module _ (s : Settings) (top : ℕ) (x : Input) (d : Desk) where
+  abbrev moved : Turn
+  moved = movedOf s top x d
+
+  abbrev begins : Turn
+  begins = begun (x .bts) (x .m) (reminds (s .functions)) (s .x) (s .y) d
+
+  -- ---- the lamp
+
+  lit : bitOf (stepOf s top x d .answer .lamps) alarmLamp ≡ eqb (x .beacon) quietCode
+  unfolding stepOf judgedOf answerOf
+  lit = lamp-alarm _ _ _ ∙ ap (λ (n : ℕ). eqb n quietCode) (carried-laws s top x d .code-after)
+
+  lamp-11 : (bitOf (stepOf s top x d .answer .lamps) 2048 ≡ true) ↔ (x .beacon ≡ 12)
+  lamp-11 = (λ h. eqb-true (x .beacon) 12 (sym lit ∙ h), λ e. lit ∙ eq-eqb (x .beacon) 12 e)
+
+  -- ---- the cause
+
+  abbrev test : Bool
+  test = eqb (x .beacon) quietCode && not (x .bts)
+
+  arose-as : stepOf s top x d .arose ≡ lowest (stepBefore s top x d .arose) (pick test 6 0)
+  unfolding stepOf judgedOf aroseOf stepBefore judgedBefore crossingTurned
+  arose-as = ap (λ (b : Bool). lowest (stepBefore s top x d .arose) (quietCause (x .beacon) b)) (moved-carries s top x d .0)
+
+  before-high : stepBefore s top x d .arose ≤ 5
+  unfolding stepBefore judgedBefore
+  before-high = to-speed s top x d _
+
+  raised : x .beacon ≡ 12 → x .bts ≡ false → stepBefore s top x d .arose ≡ 0 → stepOf s top x d .arose ≡ 6
+  unfolding lowest
+  raised e conv none =
+      arose-as ∙ ap (λ (n : ℕ). lowest n (pick test 6 0)) none ∙ ap (λ (c : ℕ). lowest 0 (quietCause c (x .bts))) e
+      ∙ ap (λ (b : Bool). lowest 0 (quietCause 12 b)) conv
+
+  behind : (stepBefore s top x d .arose ≡ 0 → ⊥) → stepOf s top x d .arose ≡ stepBefore s top x d .arose
+  behind some = arose-as ∙ six-behind _ some before-high test
+
+  unquiet : (x .beacon ≡ 12 → x .bts ≡ false → ⊥) → test ≡ false
+  unquiet h =
+      not-so test (λ t. let p = and-split (eqb (x .beacon) quietCode) (not (x .bts)) t in h (eqb-true (x .beacon) 12 (p .0)) (not-true (x .bts) (p .1)))
+
+  not-raised : (x .beacon ≡ 12 → x .bts ≡ false → ⊥) → stepOf s top x d .arose ≡ stepBefore s top x d .arose
+  not-raised h = arose-as ∙ ap (λ (t : Bool). lowest (stepBefore s top x d .arose) (pick t 6 0)) (unquiet h) ∙ lowest-alone _
+
+  -- ---- no beacon
+
+  unread : x .beacon ≡ 12 → reads s x d ≡ false
+  unfolding readsOf
+  unread e = ap (λ (c : ℕ). readsOf c (readsInBts (s .functions)) (x .bts) (d .code)) e
+
+  -- the steps before the speed's, of a code that is no beacon's
+  moved-unread : isBeacon (x .beacon) ≡ false → moved ≡ record { desk = withCode (x .beacon) (atBeacon s top x d); cause = begins .cause }
+  unfolding movedOf
+  moved-unread h =
+      ap (λ (t : Turn). record { desk = t .desk; cause = lowest (begins .cause) (t .cause) })
+      (unread-taken (x .beacon) h (protects (s .functions)) (zones (s .functions)) (readsInBts (s .functions)) (atBeacon s top x d))
+      ∙ ap (λ (n : ℕ). record { desk = withCode (x .beacon) (atBeacon s top x d); cause = n }) (lowest-alone (begins .cause))
+
+  no-beacon : x .beacon ≡ 12 → isBeacon (x .beacon) ≡ false
+  no-beacon e = ap isBeacon e
+
+  nothing-taken : x .beacon ≡ 12 → moved .desk ≡ withCode 12 (atBeacon s top x d)
+  nothing-taken e = ap (λ (t : Turn). t .desk) (moved-unread (no-beacon e)) ∙ ap (λ (c : ℕ). withCode c (atBeacon s top x d)) e
+
+  nothing-arisen : x .beacon ≡ 12 → moved .cause ≡ begins .cause
+  nothing-arisen e = ap (λ (t : Turn). t .cause) (moved-unread (no-beacon e))
+
+  read-after : d .code ≡ 12 → x .bts ≡ false → 1 ≤ x .beacon → x .beacon ≤ 11 → reads s x d ≡ true
+  unfolding readsOf
+  read-after last conv low high = rw (conv, le-leb 1 (x .beacon) low, le-leb (x .beacon) 11 high, ne-eqb (x .beacon) (d .code) (λ e. omega arith))
+
+  -- ---- without 12
+
+  as-before : (x .beacon ≡ 12 → ⊥) → stepOf s top x d ≡ stepBefore s top x d
+  unfolding stepOf judgedOf aroseOf stepBefore judgedBefore crossingTurned braked
+  as-before h =
+      ap ended (not-raised (λ e conv. h e))
+      ∙ ap (λ (a : Answer). record { desk = ended before .desk; arose = before; answer = a })
+      (answer-as s top (x .m) still speed (ended before .desk) (λ e. h (sym (moved-carries s top x d .1) ∙ e)))
+    where
+      turned : Desk
+      turned = crossingTurned (x .m) (moved .desk)
+
+      speed : ℕ
+      speed = supervisedOf s top turned
+
+      still : Bool
+      still = standstill (x .pulses) (turned .brake)
+
+      before : ℕ
+      before = stepBefore s top x d .arose
+
+      -- the brake's step, and the answer with the alarm
+      ended : ℕ → Stepped
+      ended arose =
+          let after : Desk = braked arose (still && bitOf (x .buttons) rearmButton) (x .pulses) turned in
+          record { desk = after; arose = arose; answer = answerOf s top (x .m) still speed after }
+
+  pub quiet-laws : QuietLaws s top x d
+  quiet-laws =
+      record {
+        lamp-11 = lamp-11;
+        before-high = before-high;
+        raised = raised;
+        behind = behind;
+        not-raised = not-raised;
+        unread = unread;
+        nothing-taken = nothing-taken;
+        nothing-arisen = nothing-arisen;
+        read-after = read-after;
+        as-before = as-before;
+      }
+
+-- ---- 12 in place of 0
+
+module _ (s : Settings) (top : ℕ) (x : Input) (d : Desk) where
+  -- the desk that the beacon's step finds, whatever the code is, and what arose
+  abbrev found : Desk
+  found = atBeacon s top x d
+
+  abbrev judged : ℕ → Stepped
+  judged code = judgedOf s top (withBeacon code x) (begins s top x d .cause) (withCode code found)
+
+  judged-at : (code : ℕ) → isBeacon code ≡ false → stepOf s top (withBeacon code x) d ≡ judged code
+  unfolding stepOf
+  judged-at code h = ap (λ (t : Turn). judgedOf s top (withBeacon code x) (t .cause) (t .desk)) (moved-unread s top (withBeacon code x) d h)
+
+  -- what both give alike
+  alike : {A : Type 0} (f : Stepped → A) → f (judged 12) ≡ f (judged 0) → f (stepOf s top (withBeacon 12 x) d) ≡ f (stepOf s top (withBeacon 0 x) d)
+  alike f same = ap f (judged-at 12 refl) ∙ same ∙ sym (ap f (judged-at 0 refl))
+
+  lamps-of : (k : ℕ) → (k ≡ 10 → ⊥) → (k ≡ 11 → ⊥) → (code : ℕ)
+      → bitOf (judged code .answer .lamps) (2 ^ k)
+      ≡ bitOf (buttonLamps (removable (x .m) (s .limit .last) top (found .beside .limit)) false (crossingTurned (x .m) found)) (2 ^ k)
+  unfolding judgedOf answerOf crossingTurned braked
+  lamps-of k ten eleven code =
+      lamps-else k ten _ _ _ (crossingTurned (x .m) (withCode code found)) ∙ lamps-code k eleven _ false code (crossingTurned (x .m) found)
+
+  pub only-alarm : OnlyAlarm s top x d
+  unfolding judgedOf answerOf crossingTurned supervisedOf braked
+  only-alarm =
+      record {
+        desk = λ code b. alike (λ (r : Stepped). withCode code (withBrake b (r .desk))) refl;
+        stood = alike (λ (r : Stepped). r .desk .brake .stood) refl;
+        speed = alike (λ (r : Stepped). r .answer .speed) refl;
+        icon = alike (λ (r : Stepped). r .answer .icon) refl;
+        limit = alike (λ (r : Stepped). r .answer .limit) refl;
+        lamps = λ k ten eleven. alike (λ (r : Stepped). bitOf (r .answer .lamps) (2 ^ k)) (lamps-of k ten eleven 12 ∙ sym (lamps-of k ten eleven 0));
+      }
