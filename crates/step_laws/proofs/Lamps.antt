@@ -2,9 +2,9 @@
 use Prim.Native.Nat.{ℕ, zero, suc, _^_, _/_, _%_, _<_}
 use native.Mathlib.Omega.{arith}
 use native.Mathlib.Nat.{mod-lt, zero-lt-suc, one-le-pow, pow-suc, div-eq-of-lt, div-one, zero-div, mul-mod-left, mul-div-mul-right}
-use mathlib.Core.Path.{_≡_, refl, sym, ap, _∙_, subst}
+use mathlib.Core.Path.{_≡_, refl, sym, ap, _∙_}
 use mathlib.Core.Bool.{Bool, true, false, _&&_, _||_, not}
-use lib.Dec.{leb, eqb, lit<}
+use lib.Dec.{leb, eqb}
 use lib.Bits.{bitOr, or-shr, or-mod}
 use Rattle.leaf.specs.Choosing.{pick}
 use Rattle.leaf.specs.Numbers.{quietCode, bitOf}

@@ -1,10 +1,10 @@
 -- A quiet pickup, of every sample: the alarm, cause 6, and that nothing else comes of it.
-use Prim.Native.Nat.{ℕ, _^_, _≤_, min}
+use Prim.Native.Nat.{ℕ, _^_, _≤_}
 use native.Mathlib.Omega.{arith}
 use mathlib.Core.Path.{_≡_, refl, sym, ap, _∙_}
 use mathlib.Core.Bool.{Bool, true, false, _&&_, not}
 use mathlib.Core.Logic.{_↔_}
-use lib.Dec.{leb, eqb}
+use lib.Dec.{eqb}
 use lib.Bits.{bitOr, or-zero-l}
 use borrow.Author.Tests.{le-leb, eqb-true, eq-eqb, ne-eqb, not-true}
 use Rattle.leaf.specs.Choosing.{pick, and-split}
@@ -14,7 +14,6 @@ use Rattle.card.specs.declared.Settings.{Settings}
 use Rattle.card.specs.Card.{protects, zones, reminds, readsInBts}
 use Rattle.sides.specs.Crossing.{iconOf}
 use Rattle.sides.specs.Limit.{removable}
-use Rattle.desk.specs.declared.brake.Brake.{Brake}
 use Rattle.desk.specs.declared.state.Desk.{Desk}
 use Rattle.desk.specs.declared.clock.Turn.{Turn}
 use Rattle.desk.specs.Brake.{standstill}
@@ -26,15 +25,18 @@ use Rattle.step.specs.declared.Answer.{Answer}
 use Rattle.step.specs.declared.Stepped.{Stepped}
 use Rattle.step.specs.Speed.{crossingTurned, supervisedOf}
 use Rattle.step.specs.Brake.{lowest, braked, lampIf, buttonLamps, alarmLamp, lampsOf}
-use Rattle.step.specs.Step.{movedOf, answerOf, speedCause, quietCause, aroseOf, judgedOf, stepOf}
+use Rattle.step.specs.Step.{movedOf, answerOf, quietCause, aroseOf, judgedOf, stepOf}
 use Rattle.step.proofs.Lowest.{lowest-alone}
 use Rattle.step_laws.specs.Walk.{atBeacon}
 use Rattle.step_laws.specs.Unanswered.{reads}
+use Rattle.step_laws.specs.Brake.{rearms}
 use Rattle.step_laws.specs.Quiet.{answerBefore, judgedBefore, stepBefore, withBeacon, QuietLaws, OnlyAlarm}
 use Rattle.step_laws.proofs.Choosing.{not-so}
 use Rattle.step_laws.proofs.Carried.{moved-carries, carried-laws}
 use Rattle.step_laws.proofs.Causes.{to-speed}
 use Rattle.step_laws.proofs.Lamps.{lamp-alarm, lamps-else, lamps-code}
+use Rattle.step_laws.proofs.Ranges.{standing-in}
+use Rattle.step_laws.proofs.Brake.{brake-laws}
 
 -- ---- on numbers
 
@@ -158,6 +160,14 @@ module _ (s : Settings) (top : ℕ) (x : Input) (d : Desk) where
           let after : Desk = braked arose (still && bitOf (x .buttons) rearmButton) (x .pulses) turned in
           record { desk = after; arose = arose; answer = answerOf s top (x .m) still speed after }
 
+  stays-low : (x .beacon ≡ 12 → ⊥) → d .brake .cause ≤ 5 → stepOf s top x d .desk .brake .cause ≤ 5
+  stays-low h low =
+      let arose = not-raised (λ e conv. h e) in
+      let high = before-high in
+      let after = brake-laws s top x d .cause-after in
+      let within = standing-in 5 (d .brake .cause) (stepOf s top x d .arose) (rearms x d) low (omega arith) in
+      omega arith
+
   pub quiet-laws : QuietLaws s top x d
   quiet-laws =
       record {
@@ -171,6 +181,7 @@ module _ (s : Settings) (top : ℕ) (x : Input) (d : Desk) where
         nothing-arisen = nothing-arisen;
         read-after = read-after;
         as-before = as-before;
+        stays-low = stays-low;
       }
 
 -- ---- 12 in place of 0
@@ -187,6 +198,14 @@ module _ (s : Settings) (top : ℕ) (x : Input) (d : Desk) where
   unfolding stepOf
   judged-at code h = ap (λ (t : Turn). judgedOf s top (withBeacon code x) (t .cause) (t .desk)) (moved-unread s top (withBeacon code x) d h)
 
+  arose : stepBefore s top (withBeacon 12 x) d .arose ≡ stepBefore s top (withBeacon 0 x) d .arose
+  unfolding stepBefore judgedBefore crossingTurned supervisedOf
+  arose = at 12 refl ∙ sym (at 0 refl)
+    where
+      at : (code : ℕ) → isBeacon code ≡ false
+          → stepBefore s top (withBeacon code x) d .arose ≡ judgedBefore s top (withBeacon code x) (begins s top x d .cause) (withCode code found) .arose
+      at code h = ap (λ (t : Turn). judgedBefore s top (withBeacon code x) (t .cause) (t .desk) .arose) (moved-unread s top (withBeacon code x) d h)
+
   -- what both give alike
   alike : {A : Type 0} (f : Stepped → A) → f (judged 12) ≡ f (judged 0) → f (stepOf s top (withBeacon 12 x) d) ≡ f (stepOf s top (withBeacon 0 x) d)
   alike f same = ap f (judged-at 12 refl) ∙ same ∙ sym (ap f (judged-at 0 refl))
@@ -202,6 +221,7 @@ module _ (s : Settings) (top : ℕ) (x : Input) (d : Desk) where
   unfolding judgedOf answerOf crossingTurned supervisedOf braked
   only-alarm =
       record {
+        arose = arose;
         desk = λ code b. alike (λ (r : Stepped). withCode code (withBrake b (r .desk))) refl;
         stood = alike (λ (r : Stepped). r .desk .brake .stood) refl;
         speed = alike (λ (r : Stepped). r .answer .speed) refl;

@@ -186,14 +186,14 @@ turned-in : (m : ℕ) (d : Desk) → DeskIn d → DeskIn (crossingTurned m d)
 unfolding crossingTurned
 turned-in m d h = set-crossing h _ (crossing-turned m (d .beside .crossing) (h .beside .crossing))
 
-standing-in : (before arose : ℕ) (rearm : Bool) → before ≤ causeTop → arose ≤ causeTop → standingCause before arose rearm ≤ causeTop
+pub standing-in : (top before arose : ℕ) (rearm : Bool) → before ≤ top → arose ≤ top → standingCause before arose rearm ≤ top
 unfolding standingCause
-standing-in before arose rearm p q =
-    pick-low causeTop (eqb arose 0) (pick-low causeTop rearm {x = 0} {y = before} (omega arith) p) (pick-low causeTop (eqb before 0) {x = arose} {y = before} q p)
+standing-in top before arose rearm p q =
+    pick-low top (eqb arose 0) (pick-low top rearm {x = 0} {y = before} (omega arith) p) (pick-low top (eqb before 0) {x = arose} {y = before} q p)
 
 braked-in : (arose : ℕ) (rearm : Bool) (pulses : ℕ) (d : Desk) → arose ≤ causeTop → DeskIn d → DeskIn (braked arose rearm pulses d)
 unfolding braked
-braked-in arose rearm pulses d a h = set-brake h _ (brake-after _ pulses (d .brake) (standing-in (d .brake .cause) arose rearm (h .brake .cause) a))
+braked-in arose rearm pulses d a h = set-brake h _ (brake-after _ pulses (d .brake) (standing-in causeTop (d .brake .cause) arose rearm (h .brake .cause) a))
 
 step-in : (s : Settings) (top : ℕ) (x : Input) (d : Desk) → x .beacon ≤ codeTop → DeskIn d → DeskIn (stepOf s top x d .desk)
 unfolding stepOf judgedOf

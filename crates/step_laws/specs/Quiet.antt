@@ -70,11 +70,14 @@ module _ (s : Settings) (top : ℕ) (x : Input) (d : Desk) where
     pub nothing-arisen : x .beacon ≡ 12 → movedOf s top x d .cause ≡ begun (x .bts) (x .m) (reminds (s .functions)) (s .x) (s .y) d .cause
     -- "yet the code after it counts as changed": outside BTS every beacon behind it is read
     pub read-after : d .code ≡ 12 → x .bts ≡ false → 1 ≤ x .beacon → x .beacon ≤ 11 → reads s x d ≡ true
-    -- a sample without it is as before
+    -- a sample without it is as before, and leaves no cause above 5 where none stood
     pub as-before : (x .beacon ≡ 12 → ⊥) → stepOf s top x d ≡ stepBefore s top x d
+    pub stays-low : (x .beacon ≡ 12 → ⊥) → d .brake .cause ≤ 5 → stepOf s top x d .desk .brake .cause ≤ 5
 
   -- two samples that differ in their code alone, 12 in the one and 0, no beacon, in the other
   pub record OnlyAlarm : Type 0 where
+    -- without the alarm the same cause arises
+    pub arose : stepBefore s top (withBeacon 12 x) d .arose ≡ stepBefore s top (withBeacon 0 x) d .arose
     -- whatever code and brake are put into both, they leave one desk
     pub desk : (code : ℕ) (b : Brake)
         → withCode code (withBrake b (stepOf s top (withBeacon 12 x) d .desk)) ≡ withCode code (withBrake b (stepOf s top (withBeacon 0 x) d .desk))

@@ -16,7 +16,7 @@ use Rattle.leaf.specs.Numbers.{quietCode, codeTop}
 use Rattle.leaf.specs.Answers.{given}
 use Rattle.tone.specs.declared.ToneRow.{ToneRow}
 use Rattle.tone.specs.declared.Reading.{Reading}
-use Rattle.tone.specs.declared.Reading.the-variants.{Nothing}
+use Rattle.tone.specs.declared.Reading.the-variants.{Permanent, Nothing}
 use Rattle.tone.specs.Tones.{rowsOf, rowOf, inRow, readingOf, offsetFrom, readFrom, classifyOf, codeOf}
 use Rattle.tone.specs.Facts.{LiesIn, rowIn, Accepted}
 use Rattle.tone.proofs.Apart.{lies, in-row}
@@ -132,33 +132,48 @@ module _ (area : List ℕ) (tone : Float) where
       same : {x y : Reading} → given x ≡ given y → x ≡ y
       same q = cc
 
-  -- the ride's code of what is read is the number of its row, 0 to 11, and 12 where it is nothing
-  pub code-read : (reading : Reading) → classifyOf area tone ≡ given reading → (codeOf reading ≤ 11) ⊎ (reading ≡ Nothing)
-  code-read reading e = rw (classified area tone reading e .1) (go (readFrom 0 (rowsOf area 12) tone) (read area tone))
-    where
-      small : (k : ℕ) (d : Float) → k < 12 → codeOf (readingOf k d) ≤ 11
-      small zero d h = omega arith
-      small (suc k) d h = omega arith
+  -- what is read is of a row, or nothing
+  abbrev Of-row : Reading → Type 0
+  Of-row reading = (k : ℕ) × ((k < 12) × ((offset : Float) × (reading ≡ readingOf k offset)))
 
-      go : (x : Reading) → Read area tone x → (codeOf x ≤ 11) ⊎ (x ≡ Nothing)
-      go x (of-row j i m) = inl (small j (sub binary32 tone (centre j)) i)
+  row-or-nothing : (reading : Reading) → classifyOf area tone ≡ given reading → Of-row reading ⊎ (reading ≡ Nothing)
+  row-or-nothing reading e = rw (classified area tone reading e .1) (go (readFrom 0 (rowsOf area 12) tone) (read area tone))
+    where
+      go : (x : Reading) → Read area tone x → Of-row x ⊎ (x ≡ Nothing)
+      go x (of-row j i m) = inl (j, (i, (sub binary32 tone (centre j), refl)))
       go x (of-none f) = inr refl
+
+  -- the ride's code of a row is its number
+  row-code : (k : ℕ) (d : Float) → codeOf (readingOf k d) ≡ k
+  row-code zero d = refl
+  row-code (suc k) d = refl
 
   -- 02 c: "The classifier's answer "nothing" becomes code 12": it has that code exactly when it reads nothing
   pub code-quiet : (reading : Reading) → classifyOf area tone ≡ given reading → (codeOf reading ≡ quietCode) ↔ (reading ≡ Nothing)
-  code-quiet reading e = ((λ c. go c (code-read reading e)), λ n. ap codeOf n)
+  code-quiet reading e = ((λ c. go c (row-or-nothing reading e)), λ n. ap codeOf n)
     where
-      go : codeOf reading ≡ quietCode → (codeOf reading ≤ 11) ⊎ (reading ≡ Nothing) → reading ≡ Nothing
-      go c (inl low) = absurd (omega arith)
+      go : codeOf reading ≡ quietCode → Of-row reading ⊎ (reading ≡ Nothing) → reading ≡ Nothing
+      go c (inl (k, (h, (d, p)))) = let z : k ≡ 12 = sym (row-code k d) ∙ ap codeOf (sym p) ∙ c in absurd (omega arith)
       go c (inr n) = n
 
-  -- and no code above it
-  pub code-range : (reading : Reading) → classifyOf area tone ≡ given reading → codeOf reading ≤ codeTop
-  code-range reading e = go (code-read reading e)
+  -- "of permanent 0" (c1): and that one exactly when it reads the permanent tone
+  pub code-permanent : (reading : Reading) → classifyOf area tone ≡ given reading → (codeOf reading ≡ 0) ↔ ((offset : Float) × (reading ≡ Permanent offset))
+  code-permanent reading e = ((λ c. go c (row-or-nothing reading e)), λ p. ap codeOf (p .1))
     where
-      go : (codeOf reading ≤ 11) ⊎ (reading ≡ Nothing) → codeOf reading ≤ codeTop
-      go (inl low) = omega arith
-      go (inr n) = rw n (omega arith)
+      first : (k : ℕ) (d : Float) → k ≡ 0 → readingOf k d ≡ Permanent d
+      first k d z = ap (λ (n : ℕ). readingOf n d) z
+
+      go : codeOf reading ≡ 0 → Of-row reading ⊎ (reading ≡ Nothing) → (offset : Float) × (reading ≡ Permanent offset)
+      go c (inl (k, (h, (d, p)))) = (d, p ∙ first k d (sym (row-code k d) ∙ ap codeOf (sym p) ∙ c))
+      go c (inr n) = let z : _≡_ {A = ℕ} 12 0 = ap codeOf (sym n) ∙ c in absurd (omega arith)
+
+  -- no code is above 12
+  pub code-range : (reading : Reading) → classifyOf area tone ≡ given reading → codeOf reading ≤ codeTop
+  code-range reading e = go (row-or-nothing reading e)
+    where
+      go : Of-row reading ⊎ (reading ≡ Nothing) → codeOf reading ≤ codeTop
+      go (inl (k, (h, (d, p)))) = let z : codeOf reading ≡ k = ap codeOf p ∙ row-code k d in omega arith
+      go (inr n) = let z : codeOf reading ≡ 12 = ap codeOf n in omega arith
 
 -- ---- "not-a-number is nothing", and so are both infinities
 
