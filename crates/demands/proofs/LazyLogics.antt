@@ -91,21 +91,21 @@ fresh = freshSession cardA 6
 abbrev standing : Sample
 standing = conv 0 0 0
 
-abbrev beacon-12 : Sample
-beacon-12 = conv 0 12 0
+abbrev beacon-13 : Sample
+beacon-13 = conv 0 13 0
 
 accepts : sampleOf fresh standing .outcome ≡ shows 10000 0 0
 unfolding definitions
 accepts = refl
 
-refuses : sampleOf fresh beacon-12 .outcome ≡ Refused (Number 9)
+refuses : sampleOf fresh beacon-13 .outcome ≡ Refused (Number 9)
 unfolding definitions
 refuses = refl
 
-always-refused : (s : Session) → verdict (sampleOf s beacon-12 .outcome) ≡ given tt → ⊥
-always-refused s h = cases (sampleOf s beacon-12) (demand-1 .samples s beacon-12 _ .0 refl) h
+always-refused : (s : Session) → verdict (sampleOf s beacon-13 .outcome) ≡ given tt → ⊥
+always-refused s h = cases (sampleOf s beacon-13) (demand-1 .samples s beacon-13 _ .0 refl) h
   where
-    cases : (r : Sampled) → SampledAs s beacon-12 r → verdict (r .outcome) ≡ given tt → ⊥
+    cases : (r : Sampled) → SampledAs s beacon-13 r → verdict (r .outcome) ≡ given tt → ⊥
     cases r (paper.SampledAs.refused-8 out) h = let z : _≡_ {A = ℕ} 0 1 = cc in omega arith
     cases r (paper.SampledAs.refused-9 i c) h = let z : _≡_ {A = ℕ} 0 1 = cc in omega arith
     cases r (paper.SampledAs.refused-10 i c f) h = let z : _≡_ {A = ℕ} 0 1 = cc in omega arith
@@ -117,9 +117,9 @@ logics-missed =
     record {
       constant-missed = λ h.
           let a : _≡_ {A = ℕ} 8000 (h .0) = rw accepts at (h .1 fresh standing) in
-          let b : _≡_ {A = ℕ} 0 (h .0) = rw refuses at (h .1 fresh beacon-12) in
+          let b : _≡_ {A = ℕ} 0 (h .0) = rw refuses at (h .1 fresh beacon-13) in
           omega arith;
       repeater-missed = λ f alike h.
           let first : verdict (f fresh standing .outcome) ≡ given tt = rw accepts at (alike fresh standing) in
-          always-refused (f fresh standing .session) (sym (alike (f fresh standing .session) beacon-12) ∙ rw (h fresh standing beacon-12) first);
+          always-refused (f fresh standing .session) (sym (alike (f fresh standing .session) beacon-13) ∙ rw (h fresh standing beacon-13) first);
     }

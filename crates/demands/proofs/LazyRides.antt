@@ -33,27 +33,27 @@ wipes-passes =
       unopened = λ s recording n m met e. rw (good s recording n met, e);
     }
 
--- ---- document 01's ride on card A, with beacon 12 in its second sample
+-- ---- document 01's ride on card A, with beacon 13 in its second sample
 
-abbrev ride-12 : List ℕ
-ride-12 =
-    0x00 ∷ 0x00 ∷ 0x00 ∷ 0x18 ∷ 0x01 ∷ 0x06 ∷ 0x00 ∷ 0x00 ∷ 0x00 ∷ 0x00 ∷ 0x00 ∷ 0x01 ∷ 0x00 ∷ 0x64 ∷ 0x0C ∷ 0x00 ∷ 0x00 ∷ 0x01 ∷ 0x00 ∷
+abbrev ride-13 : List ℕ
+ride-13 =
+    0x00 ∷ 0x00 ∷ 0x00 ∷ 0x18 ∷ 0x01 ∷ 0x06 ∷ 0x00 ∷ 0x00 ∷ 0x00 ∷ 0x00 ∷ 0x00 ∷ 0x01 ∷ 0x00 ∷ 0x64 ∷ 0x0D ∷ 0x00 ∷ 0x00 ∷ 0x01 ∷ 0x00 ∷
     0x64 ∷ 0x00 ∷ 0x00 ∷ 0x10 ∷ 0x01 ∷ []
 
 abbrev at100 : Answer Told
 at100 = given (record { speed = 10000; lamps = 0; cause = 0; icon = 0; limit = false })
 
 record Rides : Type 0 where
-  ours : wholeRide cardA ride-12 ≡ given (at100 ∷ refused 9 ∷ [])
-  going : goesOn cardA ride-12 ≡ given (at100 ∷ refused 9 ∷ at100 ∷ [])
-  wiping : wipes cardA ride-12 ≡ given (refused 9 ∷ [])
+  ours : wholeRide cardA ride-13 ≡ given (at100 ∷ refused 9 ∷ [])
+  going : goesOn cardA ride-13 ≡ given (at100 ∷ refused 9 ∷ at100 ∷ [])
+  wiping : wipes cardA ride-13 ≡ given (refused 9 ∷ [])
 
 rides : Rides
 unfolding definitions wholeRide startRide goodRecording long shownBy turnShows turnOf toldOf answerTo firstSamples
 rides = record { ours = refl; going = refl; wiping = refl }
 
-as-ours : (ride : Rider) → RidesExactly ride → ride cardA ride-12 ≡ given (at100 ∷ refused 9 ∷ [])
-as-ours ride exact = only-one (exact cardA ride-12) (demand-1 .rides cardA ride-12) ∙ rides .ours
+as-ours : (ride : Rider) → RidesExactly ride → ride cardA ride-13 ≡ given (at100 ∷ refused 9 ∷ [])
+as-ours ride exact = only-one (exact cardA ride-13) (demand-1 .rides cardA ride-13) ∙ rides .ours
 
 pub rides-out : RidesOut
 rides-out =

@@ -21,6 +21,7 @@ pub mod WholeText
 pub mod LineExamples
 pub mod Pieces
 pub mod Standing
+pub mod Quiet
 pub mod ShutOut
 pub mod Starred
 pub mod LazyLogics
@@ -29,3 +30,4 @@ pub mod LazyRides
 pub mod LazyLines
 pub mod LazyPrints
 pub mod LazyCounts
+pub mod LazyCauses

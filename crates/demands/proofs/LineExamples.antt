@@ -25,10 +25,10 @@ line-examples =
 
 -- a ride of one sample, whole; and one whose buttons are out of range at their first byte
 abbrev pub whole : List ℕ
-whole = one (0x00 ∷ 0x01 ∷ 0x0B ∷ 0x07 ∷ 0xFF ∷ 0x01 ∷ [])
+whole = one (0x00 ∷ 0x01 ∷ 0x0C ∷ 0x07 ∷ 0xFF ∷ 0x01 ∷ [])
 
 abbrev pub unfit : List ℕ
-unfit = 0xFF ∷ 0xFF ∷ 0x0B ∷ 0x08 ∷ []
+unfit = 0xFF ∷ 0xFF ∷ 0x0C ∷ 0x08 ∷ []
 
 pub record Computed : Type 0 where
   pub opened : Session

@@ -151,10 +151,10 @@ module _ (s : Session) (x : Sample) where
           let number = refusal-laws s x .refused-11 .1 (m .0, (m .1 .0, (m .1 .1 .0, kept (m .1 .1 .1 .0) (m .1 .1 .1 .1)))) in
           refusal-laws s x .refused-as 11 number (λ z. omega arith)
 
-  abbrev laws : BrakeLaws (s .settings) (topOf s) (carried s x) (s .desk)
+  abbrev pub laws : BrakeLaws (s .settings) (topOf s) (carried s x) (s .desk)
   laws = brake-laws (s .settings) (topOf s) (carried s x) (s .desk)
 
-  desk-after : Accepted s x → sampleOf s x .session .desk ≡ stepped s (carried s x) .desk
+  pub desk-after : Accepted s x → sampleOf s x .session .desk ≡ stepped s (carried s x) .desk
   unfolding ranOf
   desk-after a = ap (λ (r : Sampled). r .session .desk) (ran a)
 
@@ -176,7 +176,7 @@ module _ (s : Session) (x : Sample) where
       when : Braked s × (Still s x × (Pressed x × NoCause s x)) → Braked s × (sampleOf s x .session .desk .brake .cause ≡ 0)
       when h = (h .0, cause-after a ∙ laws .goes-off (h .1 .0) (h .1 .1 .0) (h .1 .1 .1))
 
-  told : (a : Told) → sampleOf s x .outcome ≡ Answered a → Accepted s x × (stepped s (carried s x) .answer ≡ a)
+  pub told : (a : Told) → sampleOf s x .outcome ≡ Answered a → Accepted s x × (stepped s (carried s x) .answer ≡ a)
   unfolding ranOf
   told a h = cases (accepted s x) refl
     where

@@ -21,7 +21,7 @@ use Rattle.session.specs.declared.Session.{Session}
 use Rattle.session.specs.declared.Sampled.{Sampled}
 use Rattle.session.specs.declared.Outcome.{Outcome}
 use Rattle.session.specs.declared.Outcome.the-variants.{Answered, Refused}
-use Rattle.session.specs.Session.{openSession, sampleOf, outcomeOf}
+use Rattle.session.specs.Session.{openSession, carried, stepped, sampleOf, outcomeOf}
 use Rattle.session.specs.Runs.{outcomes, allAccepted}
 use Rattle.rides.specs.Recording.{goodRecording, RecordingMet, samplesIn, trainOf, placeOf, firstSamples, samplesOf}
 use Rattle.rides.specs.Ride.{freshRide, startRide, shownOf, shownBy, wholeRide}
@@ -29,11 +29,13 @@ use Rattle.receiver.specs.Receiver.{endOf}
 use Rattle.receiver.specs.declared.Status.the-variants as status
 use Rattle.text.specs.Decimal.{newline}
 use Rattle.printed.specs.Printed.{printedRide}
+use Rattle.laws.specs.Refusals.{Accepted}
 use Rattle.demands.specs.Demand1.{Exactly, RiddenAs}
 use Rattle.demands.specs.Demand3.{Printer, SilentPrint, VersionsPrint, FunctionsPrint}
 use Rattle.demands.specs.Pieces.{afterBytes, shownBytes, Going, AllBytes, asShown, Due, PartAs}
 use Rattle.demands.specs.ShutOut.{Logic, document01, Equals, OneSpeed, Repeats}
 use Rattle.demands.specs.Standing.{StoodFor, Counter, Counts}
+use Rattle.demands.specs.Quiet.{steppedBefore, Arisen, Raiser, Raises}
 
 -- ---- logics
 
@@ -258,6 +260,21 @@ heedsRefused s xs = countedOn 10 xs
 pub record CountsOut : Type 0 where
   pub heeds-passes : CountsAccepted heedsRefused
   pub heeds-out : Counts heedsRefused → ⊥
+
+-- ---- causes of a quiet pickup, 02 c
+
+-- A statement of samples whose code is another than that before, as if a 12 had to be read.
+abbrev pub RaisesAtChange : Raiser → Type 0
+RaisesAtChange f = (s : Session) (x : Sample) → Accepted s x → (x .beacon ≡ s .desk .code → ⊥)
+    → Arisen (steppedBefore s x .arose) ((x .beacon ≡ 12) × (x .mode ≡ 1)) (f s x)
+
+-- one that alarms only there
+abbrev pub atChange : Raiser
+atChange s x = pick (eqb (x .beacon) (s .desk .code)) (steppedBefore s x .arose) (stepped s (carried s x) .arose)
+
+pub record CausesOut : Type 0 where
+  pub change-passes : RaisesAtChange atChange
+  pub change-out : Raises atChange → ⊥
 
 -- ---- printers
 

@@ -6,6 +6,7 @@ pub mod Examples
 pub mod Demand3
 pub mod Pieces
 pub mod Standing
+pub mod Quiet
 pub mod ShutOut
 pub mod Starred
 pub mod Lazy
