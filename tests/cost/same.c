@@ -47,7 +47,7 @@ uint8_t session_open(struct session *s, const struct settings *settings, uint8_t
 static bool window_inside(const struct window *w) { return w->left <= 30000 && w->age <= 30000 && w->distance <= 60000000; }
 
 static bool desk_inside(const struct desk *d) {
-    return d->code <= 11 && d->cause <= 5 && d->stood <= 30000 && d->main.age <= 30000 && d->main.distance <= 60000000 && window_inside(&d->window) &&
+    return d->code <= 12 && d->cause <= 6 && d->stood <= 30000 && d->main.age <= 30000 && d->main.distance <= 60000000 && window_inside(&d->window) &&
            window_inside(&d->side) && d->alongside.age <= 30000 && d->armed.age <= 30000 && d->reminder.age <= 30000 &&
            d->reminder.fast <= 30000 && d->reminder.distance <= 60000000 && d->crossing.age <= 30000 && d->crossing.distance <= 60000000 &&
            d->option.age <= 30000 && d->option.distance <= 60000000 && d->limit.age <= 30000 && d->limit.steps <= 8;
@@ -350,6 +350,7 @@ static uint16_t lamps_of(const struct desk *d, bool limit_may_go, bool still) {
     if (d->armed.armed || lit(&d->reminder)) lamps |= 128;
     if (d->main.kind == STOP && !d->main.increased && d->main.age <= 99) lamps |= 256;
     if (still && d->cause) lamps |= 1024;
+    if (d->code == 12) lamps |= 2048;
     return lamps;
 }
 
@@ -362,7 +363,7 @@ uint8_t session_sample(struct session *session, uint16_t pulses, uint8_t beacon,
     if (settings_fault(s)) return 8;
 #endif
     if (!type_allowed(session->train, s->vmax) || !desk_inside(d)) return 8;
-    if (beacon > 11 || buttons > 2047 || mode < 1 || mode > 2) return 9;
+    if (beacon > 12 || buttons > 2047 || mode < 1 || mode > 2) return 9;
     uint32_t m = (uint32_t)pulses * s->tick;
     if (m > 100000) return 10;
     bool bts = mode == 2, still = at_standstill(d, pulses);
@@ -381,6 +382,7 @@ uint8_t session_sample(struct session *session, uint16_t pulses, uint8_t beacon,
     }
     uint32_t speed = supervised(d, s, top);
     if (9 * (uint64_t)m > 25 * (uint64_t)(speed + 500)) cause = lowest(cause, 5);
+    if (beacon == 12 && !d->bts) cause = lowest(cause, 6);
     if (cause) {
         if (!d->cause) d->cause = cause;
     } else if (still && buttons & 1024) {
