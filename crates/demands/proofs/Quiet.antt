@@ -213,7 +213,10 @@ quiet-examples =
       leaving = refl;
       both-read = refl;
       one-read = refl;
+      standing = refl;
       too-fast = refl;
+      just-over = refl;
+      just-under = refl;
       thirteen = refl;
       no-button = refl;
     }

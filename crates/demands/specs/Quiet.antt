@@ -40,7 +40,7 @@ use Rattle.laws.specs.Refusals.{Accepted}
 use Rattle.laws.specs.Unanswered.{topOf}
 use Rattle.demands.specs.Demand1.{refusalBy}
 use Rattle.demands.specs.Runs.{runFrom, rideOf}
-use Rattle.demands.specs.Examples.{conv, bts, shows, card-R}
+use Rattle.demands.specs.Examples.{conv, bts, times, shows, repeated, card-R}
 
 -- ---- the desk before this request: codes 0..11, causes 0..5, no alarm (step_laws' specs/Quiet.antt has the step)
 
@@ -172,8 +172,12 @@ pub record QuietExamples : Type 0 where
   -- "7, 12, 7 reads both 7s." (c5): under 80 m the second is the stop zone's; the first's window goes on through the 12
   pub both-read : rideR (conv 50 7 0 ∷ conv 50 12 0 ∷ conv 50 7 0 ∷ []) ≡ given (shows 5000 16 0 ∷ shows 5000 2064 6 ∷ shows 1000 0 6 ∷ [])
   pub one-read : rideR (conv 50 7 0 ∷ conv 50 7 0 ∷ conv 50 7 0 ∷ []) ≡ given (shows 5000 16 0 ∷ shows 5000 16 0 ∷ shows 5000 16 0 ∷ [])
-  -- "The lowest cause of a sample stands: 300/12 is 5." (c6)
+  -- standstill is the tenth without pulses, with 12 or without
+  pub standing : ride (conv 1 0 0 ∷ times 10 (conv 0 12 0) []) ≡ given (shows 10000 0 0 ∷ repeated 9 (shows 10000 2048 6) (shows 10000 3072 6 ∷ []))
+  -- "The lowest cause of a sample stands: 300/12 is 5." (c6): 292 pulses, 105.12 km/h, are the first that do
   pub too-fast : ride (conv 300 12 0 ∷ []) ≡ given (shows 10000 2048 5 ∷ [])
+  pub just-over : ride (conv 292 12 0 ∷ []) ≡ given (shows 10000 2048 5 ∷ [])
+  pub just-under : ride (conv 291 12 0 ∷ []) ≡ given (shows 10000 2048 6 ∷ [])
   -- "9 from code 13"; "No button 11" (c7)
   pub thirteen : ride (conv 0 13 0 ∷ conv 0 12 0 ∷ []) ≡ given (by 9 ∷ shows 10000 3072 6 ∷ [])
   pub no-button : ride (conv 0 0 2048 ∷ conv 0 12 1024 ∷ []) ≡ given (by 9 ∷ shows 10000 3072 6 ∷ [])

@@ -77,8 +77,8 @@ insideOf s = settingsInside (s .settings) && typeAllowed (s .train) (s .settings
 abbrev pub inBts : ℕ → Bool
 inBts mode = eqb mode 2
 
--- 8 "session out of its ranges", 9 "beacon, buttons or mode out of range", 02 c: "9 from code 13", 10 "pulses × tick length above 100,000", 11 "mode changed", where
--- document 01's "in a sample with pulses" gives way to 02 b: "11 now reads "while not at standstill""
+-- 8 "session out of its ranges", 9 "beacon, buttons or mode out of range", 02 c: "9 from code 13", 10 "pulses × tick length above 100,000",
+-- 11 "mode changed", where document 01's "in a sample with pulses" gives way to 02 b: "11 now reads "while not at standstill""
 abbrev pub sampleChecks : Session → Sample → List Check
 sampleChecks s x =
     (8, insideOf s)
