@@ -96,8 +96,12 @@ fn arose_at(cause: u8, m: u32, speed: u32, code: u8, bts: bool) -> u8
     ensures { λ r. ⌜ r ≡ aroseOf cause m speed code bts ⌝ }
 {
     let fast = leaf::choose8(too_fast(m, speed), 5, 0);
-    let quiet = leaf::choose8((code == QUIET_CODE) & !bts, 6, 0);
-    lowest(lowest(cause, fast), quiet)
+    let before = lowest(cause, fast);
+    let quiet = (code == QUIET_CODE) & !bts;
+    if quiet {
+        return lowest(before, 6);
+    }
+    before
 }
 
 // Speed and brake, over what the steps before made.
