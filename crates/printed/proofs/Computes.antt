@@ -18,8 +18,8 @@ use Rattle.desk.specs.Clock.{deskOlder, reminded, mainCounts, sideCounts, mainM
 use Rattle.desk.specs.State.{takenOver, crossingSet, limitNow, modeChanged}
 use Rattle.buttons.specs.Buttons.{chosen, answeredBy, mainAnswered, sideAnswered, pressed, freeFor, optionUsed, limitRemoved, reminderAnswered, overrideArmed, stopIncreased, limitStepped, crossingPressed, limitPressed, overridePressed, increasePressed, hidePressed, windowPresses, allPresses, pressesOf}
 use Rattle.beacons.specs.Beacons.{readsOf, mainOpened, sideOpened, reading1, readingRow, optionOffered, reading3, reading4, zoneMet, reading7, stopped, reading8, reading9, readingLimit, readingOf, readIf, beaconTaken}
-use Rattle.step.specs.Brake.{lowest, standingCause, braked, windowLamps, controlLamps, lampsOf}
-use Rattle.step.specs.Step.{movedOf, answerOf, judgedOf, stepOf}
+use Rattle.step.specs.Brake.{lowest, standingCause, braked, windowLamps, controlLamps, buttonLamps, lampsOf}
+use Rattle.step.specs.Step.{movedOf, answerOf, aroseOf, judgedOf, stepOf}
 use Rattle.step.specs.Speed.{crossingTurned, mainSpeed, btsLimit, mainLimit, alongsideLimit, crossingLimit, limitLimit, lower, supervisedOf}
 use Rattle.session.specs.Session.{openSession, settingsInside, insideOf, refusedBy, ranOf, sampleOf}
 use Rattle.session.specs.Types.{typeSpeed, typeAllowed}
@@ -49,7 +49,7 @@ unfolding readsOf mainOpened sideOpened reading1 readingRow optionOffered readin
 beacons = tt
 
 unfoldable pub sample : Unit {0}
-unfolding lowest standingCause braked windowLamps controlLamps lampsOf movedOf answerOf judgedOf stepOf crossingTurned mainSpeed btsLimit mainLimit alongsideLimit crossingLimit limitLimit lower supervisedOf
+unfolding lowest standingCause braked windowLamps controlLamps buttonLamps lampsOf movedOf answerOf aroseOf judgedOf stepOf crossingTurned mainSpeed btsLimit mainLimit alongsideLimit crossingLimit limitLimit lower supervisedOf
 sample = tt
 
 unfoldable pub session : Unit {0}
