@@ -128,8 +128,8 @@ headTakes r b =
 abbrev pub placeIn : Receiver → ℕ
 placeIn r = r .taken % 6
 
--- "9 is certain at a sample's byte 2 (above 11 ..), 3 (above 7) or 5 (mode). 10 and 11 only at 5" (a4): may the byte stand at this place
--- before the last; at the last the whole sample is judged
+-- "9 is certain at a sample's byte 2 (above 11, from c above 12), 3 (above 7) or 5 (mode). 10 and 11 only at 5" (a4): may the byte stand at
+-- this place before the last; at the last the whole sample is judged
 unfoldable pub partFits : ℕ → ℕ → Bool
 partFits place b = pick (eqb place 2) (leb b codeTop) (pick (eqb place 3) (leb b (buttonsTop / 256)) true)
 

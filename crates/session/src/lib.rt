@@ -175,7 +175,7 @@ impl Session {
         }
     }
 
-    // One sample every 100 ms: pulses, beacon 0..11, buttons newly pressed, mode 1 CONV or 2 BTS.
+    // One sample every 100 ms: pulses, beacon code 0..12, buttons newly pressed, mode 1 CONV or 2 BTS.
     pub fn sample(self, x: Sample) -> Sampled
         ensures { λ r. ⌜ r ≡ sampleOf self x ⌝ }
         ensures { λ r. ⌜ outcomeOf (r .outcome) ≡ answerTo self x ⌝ }

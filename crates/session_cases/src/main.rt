@@ -1,6 +1,7 @@
-// What no recording can show: a session that goes on after a refused sample, one that is handed in with another tick length or count of
-// samples without pulses, or out of its ranges, and a card under highest version 1. Each sample's line is S, lamps, cause, crossing icon,
-// limit standing or not; or the refusal. The lines of stdout are worked from documents 01 and 02; what each case is after stands above it.
+// What no recording can show: a session that goes on after a refused sample, one that is handed in with another tick length, count of
+// samples without pulses, last code or cause, or out of its ranges, and a card under highest version 1. Each sample's line is S, lamps,
+// cause, crossing icon, limit standing or not; or the refusal. The lines of stdout are worked from documents 01 and 02; what each case is
+// after stands above it.
 //
 // The card is K of lessons/cards, with train type 8. At age k start gives 15000 - 10k hundredths of km/h and before-stop 6000 - 10k;
 // the tick length is 100, and BTS has 70 km/h.
@@ -103,6 +104,11 @@ fn with_last_code(mut session: Session, code: u8) -> Session {
     session
 }
 
+fn with_cause(mut session: Session, cause: u8) -> Session {
+    session.desk.brake.cause = cause;
+    session
+}
+
 // ---- cases
 
 // The 8 is not read in BTS and is the last code. A mode change with pulses is refused, so the start row that leaving BTS set is one
@@ -119,50 +125,60 @@ fn mode_refused(session: Session) {
 }
 
 // A beacon 7 sets before-stop and waits for 4, lamp 16. Four refusals later it is one sample old: the presses in refused samples have
-// neither answered it nor armed override. Then one does answer.
+// neither answered it nor armed override, and their codes, 13, 0 and 12, are not the last one: the 7 behind them is not new, so it
+// makes no stop zone. Then a press does answer.
 fn sample_refused(session: Session) {
-    say(b"beacon 12, button 11, mode 3 and 1001 pulses are refused, and change nothing\n");
+    say(b"beacon 13, button 11, mode 3 and 1001 pulses are refused, and change nothing\n");
     let read = reads(session, 100, 7);
-    let beacon = after(read, 100, 12, 16, 1);
+    let beacon = after(read, 100, 13, 16, 1);
     let button = after(beacon, 100, 0, 2048 + 128, 1);
     let mode = after(button, 0, 0, 16, 3);
-    let pulses = after(mode, 1001, 0, 16, 1);
-    let older = reads(pulses, 100, 0);
+    let pulses = after(mode, 1001, 12, 16, 1);
+    let older = reads(pulses, 100, 7);
     after(older, 100, 0, 16, 1);
 }
 
-// The tick length is 10..1000, the train type 1..8 and its T at most vmax, the last code at most 11. 8 comes before 9. Six refusals
-// later, everything put back, the beacon 7 is one sample old.
+// The tick length is 10..1000, the train type 1..8 and its T at most vmax. 8 comes before 9. Five refusals later, everything put back,
+// the beacon 7 is one sample old.
 fn session_refused(session: Session) {
     say(b"a session out of its ranges is refused, and handed back as it was\n");
     let read = reads(session, 0, 7);
     let short = reads(with_tick(read, 9), 0, 0);
-    let long = reads(with_tick(short, 1001), 0, 12);
+    let long = reads(with_tick(short, 1001), 0, 13);
     let none = reads(with_train(with_tick(long, 100), 0), 0, 0);
     let nine = reads(with_train(none, 9), 0, 0);
     let slow = reads(with_vmax(with_train(nine, 8), 199), 0, 0);
-    let code = reads(with_last_code(with_vmax(slow, 200), 12), 0, 0);
-    reads(with_last_code(code, 7), 0, 0);
+    reads(with_vmax(slow, 200), 0, 0);
 }
 
-// So many samples in CONV without pulses.
-fn stands(session: Session, samples: u16) -> Session {
-    let mut stood = session;
+// Behind a last code of 12 another 12 alarms as the first does, 2048, and brakes at standstill, 1024. A session with cause 6 is braked. 13
+// and 7 are out of range.
+fn code_and_cause(session: Session) {
+    say(b"a last code may be 12 and a cause 6, and no more\n");
+    reads(with_last_code(session, 12), 0, 12);
+    reads(with_last_code(session, 13), 0, 12);
+    reads(with_cause(session, 6), 0, 0);
+    reads(with_cause(session, 7), 0, 0);
+}
+
+// So many samples in CONV with these pulses.
+fn goes_on(session: Session, pulses: u16, samples: u16) -> Session {
+    let mut going = session;
     let mut left = samples;
     while 0 < left {
-        stood = reads(stood, 0, 0);
+        going = reads(going, pulses, 0);
         left -= 1;
     }
-    stood
+    going
 }
 
 // A beacon 8 at 36 km/h is cause 4 and sets stop, 40 km/h, with the lamp of increase. Then five samples without pulses, one that is refused,
 // so many more without, and one that carries rearm.
 fn run_with_refused(session: Session, more: u16) {
     let braked = reads(session, 100, 8);
-    let five = stands(braked, 5);
+    let five = goes_on(braked, 0, 5);
     let refused = after(five, 1001, 0, 0, 1);
-    after(stands(refused, more), 0, 0, 1024, 1);
+    after(goes_on(refused, 0, more), 0, 0, 1024, 1);
 }
 
 // Five, four and the last are ten: rearmed. With three they are nine: the brake stays on and lamp 10 dark.
@@ -188,27 +204,13 @@ fn count_top(session: Session) {
     reads(with_stood(session, 30001), 0, 0);
 }
 
-// 100,000 tenths of a millimetre, at 360 km/h.
-fn ten_metres(session: Session) -> Session {
-    reads(session, 1000, 0)
-}
-
-fn fifty_metres(session: Session) -> Session {
-    let ten = ten_metres(session);
-    let twenty = ten_metres(ten);
-    let thirty = ten_metres(twenty);
-    let forty = ten_metres(thirty);
-    ten_metres(forty)
-}
-
-// 960 * 100 and seven times 100,000 make 796,000 from the reading. With 31 * 129 = 3,999 more the second beacon 7 is the zone, its lamp
+// 960 * 100 and seven times 1000 * 100 make 796,000 from the reading. With 31 * 129 = 3,999 more the second beacon 7 is the zone, its lamp
 // dark before age 10; with 40 * 100 = 4,000 before-stop is set anew. No tick length divides 799,999, so no one card gives it. Too fast
 // from the second sample on: cause 5.
 fn second_seven(session: Session, tick: u16, pulses: u16) {
     let read = reads(session, 0, 7);
     let answered = after(read, 960, 0, 16, 1);
-    let half = fifty_metres(answered);
-    let near = ten_metres(ten_metres(half));
+    let near = goes_on(answered, 1000, 7);
     reads(with_tick(near, tick), pulses, 7);
 }
 
@@ -243,6 +245,7 @@ fn rides(session: Session) {
     mode_refused(session);
     sample_refused(session);
     session_refused(session);
+    code_and_cause(session);
     zone(session);
 }
 

@@ -8,7 +8,7 @@ use lib.ListN.{length, length-append}
 use Rattle.leaf.specs.Choosing.{pick}
 use Rattle.leaf.specs.Bytes.{byte, word}
 use Rattle.leaf.specs.Answers.{Answer, given, refused, refusedAt}
-use Rattle.tone.specs.Tones.{VERSION, readSheet, classifyOf}
+use Rattle.tone.specs.Tones.{VERSION, readSheet, classifyOf, codeOf}
 use Rattle.tone.specs.Facts.{rowIn}
 use Rattle.tone.specs.declared.Sheet.{Sheet}
 use Rattle.tone.specs.declared.Reading.{Reading}
@@ -76,7 +76,7 @@ reading-length : (reading : Reading) → length (readingText reading) ≤ 40
 unfolding readingText
 reading-length (Beacon k offset) = simp length-append (omega (arith, decimal-length k, pattern-length (toBits binary32 offset)))
 reading-length (Permanent offset) = simp length-append (omega (arith, pattern-length (toBits binary32 offset)))
-reading-length Nothing = omega arith
+reading-length Nothing = simp length-append (omega (arith, decimal-length (codeOf Nothing)))
 
 answer-length : (area : List ℕ) (bits : ℕ) (answer : Answer Reading) → length (answerText area bits answer) ≤ 4096
 unfolding answerText givenText

@@ -11,7 +11,7 @@ use Rattle.leaf.specs.Answers.{Answer, given, refused, refusedAt}
 use Rattle.text.specs.Decimal.{counted}
 use Rattle.text.specs.Hex.{patternOf, hexValue}
 use Rattle.text.specs.Words.{ascii, wordOf, labelled, refusedBy, refusedAtPlace}
-use Rattle.tone.specs.Tones.{VERSION, khz, allFinite, share, readSheet, classifyOf}
+use Rattle.tone.specs.Tones.{VERSION, khz, allFinite, share, readSheet, classifyOf, codeOf}
 use Rattle.tone.specs.Facts.{rowIn}
 use Rattle.tone.specs.declared.ToneRow.{ToneRow}
 use Rattle.tone.specs.declared.Sheet.{Sheet}
@@ -111,11 +111,12 @@ bitsFrom bits (b ∷ rest) = bitsFrom (pick (isBlank b) bits (bits % 0x1000_0000
 abbrev pub bitsOf : List ℕ → ℕ
 bitsOf line = bitsFrom 0 line
 
--- "A tone reads as a beacon with its offset, the permanent tone with its offset, or nothing."
+-- "A tone reads as a beacon with its offset, the permanent tone with its offset, or nothing."; 02 c: "The classifier's answer "nothing" becomes
+-- code 12", which stands beside it
 unfoldable pub readingText : Reading → List ℕ
 readingText (Beacon k offset) = labelled (ascii " beacon ") k ++ ascii " offset " ++ patternOf (toBits binary32 offset)
 readingText (Permanent offset) = ascii " permanent offset " ++ patternOf (toBits binary32 offset)
-readingText Nothing = ascii " nothing"
+readingText Nothing = labelled (ascii " nothing code ") (codeOf Nothing)
 
 -- a tone's bit pattern and what it reads as
 unfoldable pub givenText : ℕ → Reading → List ℕ

@@ -3,6 +3,7 @@
 // text, typed into a lent buffer.
 //
 // The functions type from the place `at` on, as those of `text` do. There is no `requires`.
+use leaf::QUIET_CODE;
 use leaf::Refusal;
 use leaf::byte_at;
 use leaf::choose32;
@@ -30,6 +31,7 @@ ghost use Rattle.leaf.specs.Answers.{refusalOf};
 ghost use Rattle.leaf.specs.Choosing.{pick};
 ghost use Rattle.tone.specs.Facts.{rowIn};
 ghost use Rattle.tone.specs.Tones.{allFinite, share};
+ghost use Rattle.tone.specs.declared.Reading.the-variants.{Nothing};
 ghost use Rattle.text.specs.Hex.{hexValue};
 ghost use Rattle.text.specs.Typing.{typed, Held};
 ghost use Rattle.shown_tones.specs.Shown.{rowKind, rowName, isOrdered, endsBy128, endsByTwiceLow, reasonOf, sharedBy, reasonText, rowText, lengthText, versionText, placeText, faultText, badText, sheetText, shownSheet};
@@ -290,6 +292,12 @@ fn bits_in(line: &[u8]) -> u32
     bits
 }
 
+fn put_nothing(out: &mut [u8], at: usize) -> usize
+    ensures { λ r. ⌜ (now (out .exit), r) ≡ typed (readingText Nothing) (now (out .entry), at) ⌝ }
+{
+    put_labelled(out, at, b" nothing code ", QUIET_CODE as u32)
+}
+
 fn put_reading(out: &mut [u8], at: usize, reading: Reading) -> usize
     ensures { λ r. ⌜ (now (out .exit), r) ≡ typed (readingText reading) (now (out .entry), at) ⌝ }
 {
@@ -303,7 +311,7 @@ fn put_reading(out: &mut [u8], at: usize, reading: Reading) -> usize
             let at = put_text(out, at, b" permanent offset ");
             put_float(out, at, offset)
         }
-        Reading::Nothing => put_text(out, at, b" nothing"),
+        Reading::Nothing => put_nothing(out, at),
     }
 }
 

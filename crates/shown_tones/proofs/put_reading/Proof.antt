@@ -21,12 +21,12 @@ returns-2 c =
 
 returns-3 : tie.Need-returns-3
 unfolding readingText
-returns-3 c = rw (c .before .before .before .before .before .enum-told .given .1) (c .before .before .put-text3 .ensures)
+returns-3 c = rw (c .before .before .before .before .enum-told .given .1) (c .before .before .put-nothing .ensures)
 
 pub put-reading-spec : {M : Type 1} → statement M
 put-reading-spec =
     tie.close
     (tie.spec (λ c. search needs) (λ c. search needs) (λ c. search needs) (λ c κs. search needs) (λ c. search needs)
     (λ c κs. search needs) (λ c κs. search needs) (λ c. search needs) (λ c. search needs) (λ c κs. search needs)
-    (λ c κs. search needs) (λ c. search needs) (λ c. search needs) (λ c κs. search needs) (λ c. search needs)
+    (λ c κs. search needs) (λ c. search needs) (λ c κs. search needs) (λ c. search needs)
     returns (λ c. search needs) returns-2 (λ c. search needs) returns-3)
