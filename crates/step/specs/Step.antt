@@ -45,8 +45,8 @@ answerOf s top m still speed d =
 abbrev pub speedCause : ℕ → ℕ → ℕ
 speedCause m speed = pick (exceedsOf m (speed + 500)) 5 0
 
--- 02 c: "Each sample with code 12 .. outside BTS raises cause 6 as well.": "not only the first" (c2), and "the mode after the mode step decides"
--- (c4)
+-- 02 c: "Each sample with code 12 .. outside BTS raises cause 6 as well.": "not only the first" (c2). "The mode after the mode step decides" (c4):
+-- it is the sample's
 abbrev pub quietCause : ℕ → Bool → ℕ
 quietCause code bts = pick (eqb code quietCode && not bts) 6 0
 
@@ -59,7 +59,7 @@ unfoldable pub judgedOf : Settings → ℕ → Input → ℕ → Desk → Steppe
 judgedOf s top x cause d =
     let turned : Desk = crossingTurned (x .m) d in
     let speed : ℕ = supervisedOf s top turned in
-    let arose : ℕ = aroseOf cause (x .m) speed (x .beacon) (turned .bts) in
+    let arose : ℕ = aroseOf cause (x .m) speed (x .beacon) (x .bts) in
     let still : Bool = standstill (x .pulses) (turned .brake) in
     let after : Desk = braked arose (still && bitOf (x .buttons) rearmButton) (x .pulses) turned in
     record { desk = after; arose = arose; answer = answerOf s top (x .m) still speed after }

@@ -110,7 +110,7 @@ fn judged(d: Desk, settings: Settings, top: u32, x: Input, cause: u8) -> Stepped
 {
     let turned = turn_crossing(d, x.m);
     let speed = supervised(turned, settings, top);
-    let arose = arose_at(cause, x.m, speed, x.beacon, turned.bts);
+    let arose = arose_at(cause, x.m, speed, x.beacon, x.bts);
     let brake = turned.brake;
     let still = brake.at_standstill(x.pulses);
     let rearm = still & has_bit(x.buttons, button::REARM);

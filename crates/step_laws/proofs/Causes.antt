@@ -56,4 +56,4 @@ arose-in s top x d =
     let turned : Desk = crossingTurned (x .m) (movedOf s top x d .desk) in
     let five = to-speed s top x d (supervisedOf s top turned) in
     lowest-in causeTop _ _ (omega arith)
-    (pick-low causeTop (eqb (x .beacon) quietCode && not (turned .bts)) {x = 6} {y = 0} (omega arith) (omega arith))
+    (pick-low causeTop (eqb (x .beacon) quietCode && not (x .bts)) {x = 6} {y = 0} (omega arith) (omega arith))

@@ -109,7 +109,7 @@ module _ (s : Settings) (top : ℕ) (x : Input) (d : Desk) where
       at-speed = lowest-is _ _ n (pick-later (exceedsOf (x .m) (supervisedOf s top turned + 500)) 5 (omega arith)) low high
 
       at-pickup : (stepOf s top x d .arose ≡ n) ↔ (lowest (movedOf s top x d .cause) (speedCause (x .m) (supervisedOf s top turned)) ≡ n)
-      at-pickup = lowest-is _ _ n (pick-later (eqb (x .beacon) quietCode && not (turned .bts)) 6 (omega arith)) low high
+      at-pickup = lowest-is _ _ n (pick-later (eqb (x .beacon) quietCode && not (x .bts)) 6 (omega arith)) low high
 
   -- no miss in a sample that changes the mode
   begun-miss : (n : ℕ) → 1 ≤ n → (begins .cause ≡ n) ↔ ((d .bts ≡ x .bts) × (advances .cause ≡ n))

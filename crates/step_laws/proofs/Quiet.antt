@@ -83,8 +83,8 @@ module _ (s : Settings) (top : ℕ) (x : Input) (d : Desk) where
   test = eqb (x .beacon) quietCode && not (x .bts)
 
   arose-as : stepOf s top x d .arose ≡ lowest (stepBefore s top x d .arose) (pick test 6 0)
-  unfolding stepOf judgedOf aroseOf stepBefore judgedBefore crossingTurned
-  arose-as = ap (λ (b : Bool). lowest (stepBefore s top x d .arose) (quietCause (x .beacon) b)) (moved-carries s top x d .0)
+  unfolding stepOf judgedOf aroseOf stepBefore judgedBefore
+  arose-as = refl
 
   before-high : stepBefore s top x d .arose ≤ 5
   unfolding stepBefore judgedBefore
