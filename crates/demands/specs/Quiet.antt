@@ -44,6 +44,7 @@ use Rattle.demands.specs.Examples.{conv, bts, times, shows, repeated, ca
 
 -- ---- the desk before this request: codes 0..11, causes 0..5, no alarm (step_laws' specs/Quiet.antt has the step)
 
+-- what was inside then is inside now, and no higher
 abbrev pub insideBefore : Session → Bool
 insideBefore s = insideOf s && leb (s .desk .code) 11 && leb (s .desk .brake .cause) 5
 
