@@ -1,16 +1,19 @@
 -- Request c holds: what a quiet pickup comes to, that nothing else comes of it, and that a ride without it is as before.
 use Prim.Native.Nat.{ℕ, _^_, _≤_}
 use native.Mathlib.Omega.{arith}
-use mathlib.Core.Bool.{Bool, true, false, _&&_}
+use mathlib.Core.Bool.{Bool, true, false, _&&_, _||_, not}
 use mathlib.Core.List.{List, [], _∷_}
+use mathlib.Core.Logic.{_⊎_, inl, inr, _↔_}
 use mathlib.Core.Path.{_≡_, refl, sym, ap, _∙_}
 use lib.Dec.{leb, eqb}
 use borrow.Author.Tests.{le-leb, leb-true, leb-false, lt-leb, eqb-true, eqb-false}
-use Rattle.leaf.specs.Choosing.{pick}
+use Rattle.leaf.specs.Choosing.{pick, and-split}
 use Rattle.leaf.specs.Numbers.{codeTop, buttonsTop, bitOf}
 use Rattle.tone.proofs.Readings.{code-quiet, code-permanent}
+use Rattle.card.specs.Card.{readsInBts}
 use Rattle.desk.specs.declared.state.Desk.{Desk}
 use Rattle.desk.specs.State.{withBrake, withCode}
+use Rattle.beacons.specs.Beacons.{isSide}
 use Rattle.step.specs.declared.Answer.{Answer as Told}
 use Rattle.step.specs.declared.Stepped.{Stepped}
 use Rattle.step.specs.Brake.{standingCause}
@@ -22,6 +25,7 @@ use Rattle.session.specs.Session.{insideOf, inBts, refusedBy, carried, sampledA
 use Rattle.session.specs.Runs.{accepted}
 use Rattle.session.proofs.Runs.{refused-stays}
 use Rattle.step_laws.specs.Brake.{rearms}
+use Rattle.step_laws.specs.Unanswered.{reads}
 use Rattle.step_laws.specs.Quiet.{QuietLaws}
 use Rattle.step_laws.proofs.Carried.{carried-laws}
 use Rattle.step_laws.proofs.Quiet.{quiet-laws, only-alarm}
@@ -70,6 +74,29 @@ module _ (s : Session) (x : Sample) where
       cases true e true f false g = silent (eqb-true (steppedBefore s x .arose) 0 e) (λ r. eqb-false (x .mode) 1 g (r .1))
       cases true e false f c g = silent (eqb-true (steppedBefore s x .arose) 0 e) (λ r. eqb-false (x .beacon) 12 f (r .0))
 
+  -- a beacon behind a 12
+  abbrev ReadInBts : Type 0
+  ReadInBts = (isSide (x .beacon) ≡ true) × (readsInBts (s .settings .functions) ≡ true)
+
+  read-after : Accepted s x → s .desk .code ≡ 12 → 1 ≤ x .beacon → x .beacon ≤ 11
+      → (reads (s .settings) (carried s x) (s .desk) ≡ true) ↔ ((x .mode ≡ 1) ⊎ ReadInBts)
+  read-after a last low high = ((λ h. only (inBts (x .mode)) refl (sym law ∙ h)), λ h. law ∙ when h)
+    where
+      law : reads (s .settings) (carried s x) (s .desk) ≡ (not (inBts (x .mode)) || isSide (x .beacon) && readsInBts (s .settings .functions))
+      law = quiet .read-after last low high
+
+      only : (t : Bool) → inBts (x .mode) ≡ t → (not t || isSide (x .beacon) && readsInBts (s .settings .functions)) ≡ true → (x .mode ≡ 1) ⊎ ReadInBts
+      only true e h = inr (and-split (isSide (x .beacon)) (readsInBts (s .settings .functions)) h)
+      only false e h = inl (of-conv (x .mode) (a .codes .mode-low) (a .codes .mode-high) e)
+
+      either : (t : Bool) → (t || true) ≡ true
+      either true = refl
+      either false = refl
+
+      when : (x .mode ≡ 1) ⊎ ReadInBts → (not (inBts (x .mode)) || isSide (x .beacon) && readsInBts (s .settings .functions)) ≡ true
+      when (inl e) = rw (conv-of (x .mode) e)
+      when (inr p) = rw (p .0, p .1) (either (not (inBts (x .mode))))
+
   alarm : (a : Told) → sampleOf s x .outcome ≡ Answered a → Alarm s x a
   alarm a h =
       let t = told s x a h in
@@ -78,7 +105,7 @@ module _ (s : Session) (x : Sample) where
         lamp-11 = ((λ lit. quiet .lamp-11 .0 (same ∙ lit)), λ e. sym same ∙ quiet .lamp-11 .1 e);
         unread = quiet .unread;
         remembered = ap (λ (d : Desk). d .code) (desk-after s x (t .0)) ∙ carried-laws (s .settings) (topOf s) (carried s x) (s .desk) .code-after;
-        read-after = λ last mode low high. quiet .read-after last (conv-of (x .mode) mode) low high;
+        read-after = read-after (t .0);
       }
 
 -- ---- nothing else

@@ -8,7 +8,7 @@
 use Prim.Native.Nat.{ℕ, _*_, _^_, _≤_}
 use mathlib.Core.Bool.{Bool, true, false, _&&_, _||_}
 use mathlib.Core.List.{List, [], _∷_}
-use mathlib.Core.Logic.{_↔_}
+use mathlib.Core.Logic.{_⊎_, _↔_}
 use mathlib.Core.Path.{_≡_}
 use lib.Dec.{leb, eqb}
 use lib.Ieee.{Float}
@@ -20,11 +20,13 @@ use Rattle.leaf.specs.declared.Refusal.the-variants.{Number}
 use Rattle.tone.specs.declared.Reading.{Reading}
 use Rattle.tone.specs.declared.Reading.the-variants.{Permanent, Nothing}
 use Rattle.tone.specs.Tones.{classifyOf, codeOf}
+use Rattle.card.specs.Card.{readsInBts}
 use Rattle.card.specs.CardA.{cardA}
 use Rattle.desk.specs.declared.brake.Brake.{Brake}
 use Rattle.desk.specs.Brake.{standstill}
 use Rattle.desk.specs.State.{withBrake, withCode}
 use Rattle.desk.specs.Clock.{sameMode}
+use Rattle.beacons.specs.Beacons.{isSide}
 use Rattle.step.specs.declared.Answer.{Answer as Told}
 use Rattle.step.specs.declared.Stepped.{Stepped}
 use Rattle.session.specs.declared.Sample.{Sample}
@@ -101,8 +103,9 @@ pub record Alarm (s : Session) (x : Sample) (a : Told) : Type 0 where
   pub unread : x .beacon ≡ 12 → reads (s .settings) (carried s x) (s .desk) ≡ false
   -- "12 becomes the last code in either mode" (c5), as every code does,
   pub remembered : sampleOf s x .session .desk .code ≡ x .beacon
-  -- "yet the code after it counts as changed": a beacon is read
-  pub read-after : s .desk .code ≡ 12 → x .mode ≡ 1 → 1 ≤ x .beacon → x .beacon ≤ 11 → reads (s .settings) (carried s x) (s .desk) ≡ true
+  -- "yet the code after it counts as changed": a beacon is read, in BTS exactly where function 3 reads it
+  pub read-after : s .desk .code ≡ 12 → 1 ≤ x .beacon → x .beacon ≤ 11
+      → (reads (s .settings) (carried s x) (s .desk) ≡ true) ↔ ((x .mode ≡ 1) ⊎ ((isSide (x .beacon) ≡ true) × (readsInBts (s .settings .functions) ≡ true)))
 
 -- ---- 12 in place of 0, which is no beacon either
 

@@ -2,7 +2,7 @@
 use Prim.Native.Nat.{ℕ, _^_, _≤_}
 use native.Mathlib.Omega.{arith}
 use mathlib.Core.Path.{_≡_, refl, sym, ap, _∙_}
-use mathlib.Core.Bool.{Bool, true, false, _&&_, not}
+use mathlib.Core.Bool.{Bool, true, false, _&&_, _||_, not}
 use mathlib.Core.Logic.{_↔_}
 use lib.Dec.{eqb}
 use lib.Bits.{bitOr, or-zero-l}
@@ -19,7 +19,7 @@ use Rattle.desk.specs.declared.clock.Turn.{Turn}
 use Rattle.desk.specs.Brake.{standstill}
 use Rattle.desk.specs.State.{withBrake, withCode}
 use Rattle.desk.specs.Clock.{begun}
-use Rattle.beacons.specs.Beacons.{isBeacon, readsOf, readIf, beaconTaken}
+use Rattle.beacons.specs.Beacons.{isBeacon, isSide, readsOf, readIf, beaconTaken}
 use Rattle.step.specs.declared.Input.{Input}
 use Rattle.step.specs.declared.Answer.{Answer}
 use Rattle.step.specs.declared.Stepped.{Stepped}
@@ -129,9 +129,9 @@ module _ (s : Settings) (top : ℕ) (x : Input) (d : Desk) where
   nothing-arisen : x .beacon ≡ 12 → moved .cause ≡ begins .cause
   nothing-arisen e = ap (λ (t : Turn). t .cause) (moved-unread (no-beacon e))
 
-  read-after : d .code ≡ 12 → x .bts ≡ false → 1 ≤ x .beacon → x .beacon ≤ 11 → reads s x d ≡ true
+  read-after : d .code ≡ 12 → 1 ≤ x .beacon → x .beacon ≤ 11 → reads s x d ≡ (not (x .bts) || isSide (x .beacon) && readsInBts (s .functions))
   unfolding readsOf
-  read-after last conv low high = rw (conv, le-leb 1 (x .beacon) low, le-leb (x .beacon) 11 high, ne-eqb (x .beacon) (d .code) (λ e. omega arith))
+  read-after last low high = rw (le-leb 1 (x .beacon) low, le-leb (x .beacon) 11 high, ne-eqb (x .beacon) (d .code) (λ e. omega arith))
 
   -- ---- without 12
 

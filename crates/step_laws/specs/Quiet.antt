@@ -3,12 +3,12 @@
 -- too, so that what the alarm adds is said against it.
 use Prim.Native.Nat.{ℕ, _^_, _≤_}
 use mathlib.Core.Path.{_≡_}
-use mathlib.Core.Bool.{Bool, true, false, _&&_}
+use mathlib.Core.Bool.{Bool, true, false, _&&_, _||_, not}
 use mathlib.Core.Logic.{_↔_}
 use Rattle.leaf.specs.Numbers.{bitOf}
 use Rattle.leaf.specs.Buttons.{rearmButton}
 use Rattle.card.specs.declared.Settings.{Settings}
-use Rattle.card.specs.Card.{reminds}
+use Rattle.card.specs.Card.{reminds, readsInBts}
 use Rattle.sides.specs.Crossing.{iconOf}
 use Rattle.sides.specs.Limit.{removable}
 use Rattle.desk.specs.declared.brake.Brake.{Brake}
@@ -16,6 +16,7 @@ use Rattle.desk.specs.declared.state.Desk.{Desk}
 use Rattle.desk.specs.Brake.{standstill}
 use Rattle.desk.specs.State.{withBrake, withCode}
 use Rattle.desk.specs.Clock.{begun}
+use Rattle.beacons.specs.Beacons.{isSide}
 use Rattle.step.specs.declared.Input.{Input}
 use Rattle.step.specs.declared.Answer.{Answer}
 use Rattle.step.specs.declared.Stepped.{Stepped}
@@ -68,8 +69,8 @@ module _ (s : Settings) (top : ℕ) (x : Input) (d : Desk) where
     pub unread : x .beacon ≡ 12 → reads s x d ≡ false
     pub nothing-taken : x .beacon ≡ 12 → movedOf s top x d .desk ≡ withCode 12 (atBeacon s top x d)
     pub nothing-arisen : x .beacon ≡ 12 → movedOf s top x d .cause ≡ begun (x .bts) (x .m) (reminds (s .functions)) (s .x) (s .y) d .cause
-    -- "yet the code after it counts as changed": outside BTS every beacon behind it is read
-    pub read-after : d .code ≡ 12 → x .bts ≡ false → 1 ≤ x .beacon → x .beacon ≤ 11 → reads s x d ≡ true
+    -- "yet the code after it counts as changed": a beacon behind it is read, in BTS where function 3 reads it
+    pub read-after : d .code ≡ 12 → 1 ≤ x .beacon → x .beacon ≤ 11 → reads s x d ≡ (not (x .bts) || isSide (x .beacon) && readsInBts (s .functions))
     -- a sample without it is as before, and leaves no cause above 5 where none stood
     pub as-before : (x .beacon ≡ 12 → ⊥) → stepOf s top x d ≡ stepBefore s top x d
     pub stays-low : (x .beacon ≡ 12 → ⊥) → d .brake .cause ≤ 5 → stepOf s top x d .desk .brake .cause ≤ 5
