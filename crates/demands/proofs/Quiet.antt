@@ -12,7 +12,9 @@ use Rattle.leaf.specs.Numbers.{codeTop, buttonsTop, bitOf}
 use Rattle.tone.proofs.Readings.{code-quiet, code-permanent}
 use Rattle.card.specs.Card.{readsInBts}
 use Rattle.desk.specs.declared.state.Desk.{Desk}
+use Rattle.desk.specs.Brake.{standstill}
 use Rattle.desk.specs.State.{withBrake, withCode}
+use Rattle.desk.specs.Ranges.{deskInside}
 use Rattle.beacons.specs.Beacons.{isSide}
 use Rattle.step.specs.declared.Answer.{Answer as Told}
 use Rattle.step.specs.declared.Stepped.{Stepped}
@@ -34,7 +36,7 @@ use Rattle.laws.specs.Refusals.{Accepted}
 use Rattle.laws.specs.Unanswered.{topOf}
 use Rattle.laws.proofs.Refusals.{refusal-laws}
 use Rattle.demands.specs.Demand1.{refusalBy}
-use Rattle.demands.specs.Quiet.{insideBefore, refusedBefore, steppedBefore, sampleBefore, sampledBy, No12, Arisen, Alarm, coded, AlikeButAlarm, Quiet, QuietExamples}
+use Rattle.demands.specs.Quiet.{insideBefore, refusedBefore, steppedBefore, sampleBefore, sampledBy, No12, Arisen, Alarm, withLast, withCause, coded, AlikeButAlarm, Quiet, QuietExamples}
 use Rattle.demands.specs.Quiet as paper
 use Rattle.demands.proofs.Computes.{definitions}
 use Rattle.demands.proofs.Standing.{desk-after, told, laws}
@@ -155,6 +157,25 @@ refused-alike : (s : Session) (x : Sample) → refusedBy s (coded 12 x) ≡ refu
 unfolding refusedBy
 refused-alike s x = refl
 
+-- ---- behind a 12
+
+last-12 : (s : Session) (x : Sample) → refusedBy (withLast 12 s) x ≡ refusedBy (withLast 0 s) x
+unfolding refusedBy insideOf deskInside
+last-12 s x = refl
+
+cause-6 : (s : Session) (x : Sample) → refusedBy (withCause 6 s) x ≡ refusedBy (withCause 5 s) x
+unfolding refusedBy insideOf deskInside standstill
+cause-6 s x = refl
+
+counts-changed : (s : Session) (x : Sample) (a : Told) → 1 ≤ x .beacon → x .beacon ≤ 11 → sampleOf (withLast 12 s) x .outcome ≡ Answered a
+    → sampleOf (withLast 12 s) x ≡ sampleOf (withLast 0 s) x
+unfolding ranOf
+counts-changed s x a low high h =
+    let none = refusal-laws (withLast 12 s) x .accepted .1 (told (withLast 12 s) x a h .0) in
+    refusal-laws (withLast 12 s) x .accepted-as none
+    ∙ ap (sampledAs s) (quiet s x .counts-changed low high)
+    ∙ sym (refusal-laws (withLast 0 s) x .accepted-as (sym (last-12 s x) ∙ none))
+
 -- ---- refusals
 
 module _ (s : Session) (x : Sample) where
@@ -222,6 +243,9 @@ quiet-pickup =
       alarm = alarm;
       nothing-else = nothing-else;
       refused-alike = refused-alike;
+      counts-changed = counts-changed;
+      last-12 = last-12;
+      cause-6 = cause-6;
       code-13 = λ s x inside high. by-9 s x inside (λ c b. omega arith);
       button-11 = λ s x inside high. by-9 s x inside (λ c b. omega arith);
       code-outside = λ s x high. by-8 s x (λ i. let low = i .desk .code in omega arith);

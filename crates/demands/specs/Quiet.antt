@@ -34,7 +34,7 @@ use Rattle.session.specs.declared.Session.{Session}
 use Rattle.session.specs.declared.Sampled.{Sampled}
 use Rattle.session.specs.declared.Outcome.{Outcome}
 use Rattle.session.specs.declared.Outcome.the-variants.{Answered, Refused}
-use Rattle.session.specs.Session.{openSession, insideOf, inBts, refusedBy, carried, sampledAs, stepped, sampleOf}
+use Rattle.session.specs.Session.{withDesk, openSession, insideOf, inBts, refusedBy, carried, sampledAs, stepped, sampleOf}
 use Rattle.step_laws.specs.Unanswered.{reads}
 use Rattle.step_laws.specs.Quiet.{stepBefore}
 use Rattle.laws.specs.Ranges.{Inside}
@@ -107,6 +107,14 @@ pub record Alarm (s : Session) (x : Sample) (a : Told) : Type 0 where
   pub read-after : s .desk .code ≡ 12 → 1 ≤ x .beacon → x .beacon ≤ 11
       → (reads (s .settings) (carried s x) (s .desk) ≡ true) ↔ ((x .mode ≡ 1) ⊎ ((isSide (x .beacon) ≡ true) × (readsInBts (s .settings .functions) ≡ true)))
 
+-- ---- a session with another last code, or another cause
+
+abbrev pub withLast : ℕ → Session → Session
+withLast code s = withDesk (withCode code (s .desk)) s
+
+abbrev pub withCause : ℕ → Session → Session
+withCause cause s = withDesk (withBrake (record { cause = cause; stood = s .desk .brake .stood }) (s .desk)) s
+
 -- ---- 12 in place of 0, which is no beacon either
 
 abbrev pub coded : ℕ → Sample → Sample
@@ -141,12 +149,18 @@ pub record Quiet : Type 0 where
   pub nothing-else : (s : Session) (x : Sample) (a b : Told) → sampleOf s (coded 12 x) .outcome ≡ Answered a → sampleOf s (coded 0 x) .outcome ≡ Answered b
       → AlikeButAlarm s x a b
   pub refused-alike : (s : Session) (x : Sample) → refusedBy s (coded 12 x) ≡ refusedBy s (coded 0 x)
-  -- 4. "Refusals: 9 from code 13."; "buttons above 2047 stay 9" (c7); "code 0..12, cause 0..6" of the session (c7, c8).
+  -- 4. "yet the code after it counts as changed.": a beacon behind a 12 leaves the session and is answered as behind a 0.
+  pub counts-changed : (s : Session) (x : Sample) (a : Told) → 1 ≤ x .beacon → x .beacon ≤ 11 → sampleOf (withLast 12 s) x .outcome ≡ Answered a
+      → sampleOf (withLast 12 s) x ≡ sampleOf (withLast 0 s) x
+  -- 5. "Refusals: 9 from code 13."; "buttons above 2047 stay 9" (c7); "code 0..12, cause 0..6" of the session (c7, c8): 12 is in its range where 0 is,
+  -- 6 where 5 is.
+  pub last-12 : (s : Session) (x : Sample) → refusedBy (withLast 12 s) x ≡ refusedBy (withLast 0 s) x
+  pub cause-6 : (s : Session) (x : Sample) → refusedBy (withCause 6 s) x ≡ refusedBy (withCause 5 s) x
   pub code-13 : (s : Session) (x : Sample) → Inside s → 13 ≤ x .beacon → sampleOf s x ≡ refusalBy 9 s
   pub button-11 : (s : Session) (x : Sample) → Inside s → 2048 ≤ x .buttons → sampleOf s x ≡ refusalBy 9 s
   pub code-outside : (s : Session) (x : Sample) → 13 ≤ s .desk .code → sampleOf s x ≡ refusalBy 8 s
   pub cause-outside : (s : Session) (x : Sample) → 7 ≤ s .desk .brake .cause → sampleOf s x ≡ refusalBy 8 s
-  -- 5. "Old recordings hold no 12 and answer as before.": every list without a 12, refused samples among them, on every session that the desk
+  -- 6. "Old recordings hold no 12 and answer as before.": every list without a 12, refused samples among them, on every session that the desk
   -- before could hold, sample by sample.
   pub as-before : (s : Session) (xs : List Sample) → s .desk .code ≤ 11 → s .desk .brake .cause ≤ 5 → No12 xs
       → sampledBy sampleOf s xs ≡ sampledBy sampleBefore s xs

@@ -37,6 +37,7 @@ use Rattle.step_laws.proofs.Causes.{to-speed}
 use Rattle.step_laws.proofs.Lamps.{lamp-alarm, lamps-else, lamps-code}
 use Rattle.step_laws.proofs.Ranges.{standing-in}
 use Rattle.step_laws.proofs.Brake.{brake-laws}
+use Rattle.step_laws.proofs.Unseen.{other-code, at-beacon, first-cause}
 
 -- ---- on numbers
 
@@ -50,6 +51,11 @@ six-behind a n low false = lowest-alone a
 unread-taken : (code : ℕ) → isBeacon code ≡ false → (f0 f1 f3 : Bool) (d : Desk) → beaconTaken code f0 f1 f3 d ≡ record { desk = withCode code d; cause = 0 }
 unfolding beaconTaken readIf readsOf
 unread-taken code h f0 f1 f3 d = rw h
+
+-- behind a 12 a beacon is read as behind a 0
+reads-alike : (code : ℕ) → 1 ≤ code → code ≤ 11 → (f3 bts : Bool) → readsOf code f3 bts 12 ≡ readsOf code f3 bts 0
+unfolding readsOf
+reads-alike code low high f3 bts = rw (ne-eqb code 12 (λ e. omega arith), ne-eqb code 0 (λ e. omega arith))
 
 -- without 12 the answer has no alarm
 answer-as : (s : Settings) (top m : ℕ) (still : Bool) (speed : ℕ) (d : Desk) → (d .code ≡ 12 → ⊥) → answerOf s top m still speed d ≡ answerBefore s top m still speed d
@@ -133,6 +139,32 @@ module _ (s : Settings) (top : ℕ) (x : Input) (d : Desk) where
   unfolding readsOf
   read-after last low high = rw (le-leb 1 (x .beacon) low, le-leb (x .beacon) 11 high, ne-eqb (x .beacon) (d .code) (λ e. omega arith))
 
+  -- the sample behind a last code n, by whether its beacon is read
+  taken : Bool → Turn
+  taken reads =
+      record {
+        desk = readIf reads (x .beacon) (protects (s .functions)) (zones (s .functions)) (withCode (x .beacon) (atBeacon s top x d));
+        cause = lowest (begins .cause) (pick (reads && eqb (x .beacon) 8 && not (atBeacon s top x d .armed .armed)) 4 0);
+      }
+
+  behind-code : (n : ℕ) → movedOf s top x (withCode n d) ≡ taken (readsOf (x .beacon) (readsInBts (s .functions)) (atBeacon s top x d .bts) n)
+  unfolding movedOf beaconTaken taken
+  behind-code n =
+      ap (λ (e : Desk). read (begun (x .bts) (x .m) (reminds (s .functions)) (s .x) (s .y) (withCode n d) .cause) e) (at-beacon (other-code n) s top x .at d)
+      ∙ ap (λ (cause : ℕ). read cause (withCode n (atBeacon s top x d))) (first-cause (other-code n) s top x d)
+    where
+      read : ℕ → Desk → Turn
+      read cause e =
+          let t : Turn = beaconTaken (x .beacon) (protects (s .functions)) (zones (s .functions)) (readsInBts (s .functions)) e in
+          record { desk = t .desk; cause = lowest cause (t .cause) }
+
+  counts-changed : 1 ≤ x .beacon → x .beacon ≤ 11 → stepOf s top x (withCode 12 d) ≡ stepOf s top x (withCode 0 d)
+  unfolding stepOf
+  counts-changed low high = ap (λ (t : Turn). judgedOf s top x (t .cause) (t .desk)) (behind-code 12 ∙ ap taken as-0 ∙ sym (behind-code 0))
+    where
+      as-0 : readsOf (x .beacon) (readsInBts (s .functions)) (atBeacon s top x d .bts) 12 ≡ readsOf (x .beacon) (readsInBts (s .functions)) (atBeacon s top x d .bts) 0
+      as-0 = reads-alike (x .beacon) low high (readsInBts (s .functions)) (atBeacon s top x d .bts)
+
   -- ---- without 12
 
   as-before : (x .beacon ≡ 12 → ⊥) → stepOf s top x d ≡ stepBefore s top x d
@@ -180,6 +212,7 @@ module _ (s : Settings) (top : ℕ) (x : Input) (d : Desk) where
         nothing-taken = nothing-taken;
         nothing-arisen = nothing-arisen;
         read-after = read-after;
+        counts-changed = counts-changed;
         as-before = as-before;
         stays-low = stays-low;
       }

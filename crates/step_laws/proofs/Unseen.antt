@@ -1,7 +1,7 @@
--- No step of a sample before the brake's own looks at the brake.
+-- No step of a sample before the brake's own looks at the brake, and none before the beacon's at the last code.
 use Prim.Native.Nat.{ℕ, _^_}
 use mathlib.Core.Path.{_≡_, refl, sym, ap, _∙_}
-use mathlib.Core.Bool.{Bool, true, false, _&&_}
+use mathlib.Core.Bool.{Bool, true, false, _&&_, not}
 use lib.Dec.{eqb}
 use Rattle.leaf.specs.Choosing.{pick}
 use Rattle.leaf.specs.Numbers.{bitOf}
@@ -22,27 +22,44 @@ use Rattle.desk.specs.declared.clock.Turn.{Turn}
 use Rattle.desk.specs.State.{withBrake, withCode, withWindow, withSide, takenOver, crossingSet, limitNow, modeChanged}
 use Rattle.desk.specs.Clock.{sameMode, deskOlder, reminded, mainCounts, sideCounts, mainMissed, sideMissed, advanced, begun}
 use Rattle.buttons.specs.Buttons.{chosen, answeredBy, mainAnswered, sideAnswered, pressed, freeFor, optionUsed, limitRemoved, reminderAnswered, overrideArmed, stopIncreased, limitStepped, crossingPressed, limitPressed, overridePressed, increasePressed, hidePressed, windowPresses, allPresses, pressesOf}
-use Rattle.beacons.specs.Beacons.{mainOpened, sideOpened, reading1, readingRow, optionOffered, reading3, reading4, zoneOr, zoneMet, reading7, stopped, reading8, reading9, readingLimit, readingOf, readIf, beaconTaken}
+use Rattle.beacons.specs.Beacons.{mainOpened, sideOpened, reading1, readingRow, optionOffered, reading3, reading4, zoneOr, zoneMet, reading7, stopped, reading8, reading9, readingLimit, readingOf, readsOf, readIf, beaconTaken}
 use Rattle.step.specs.declared.Input.{Input}
 use Rattle.step.specs.declared.Stepped.{Stepped}
 use Rattle.step.specs.Speed.{crossingTurned, supervisedOf}
 use Rattle.step.specs.Brake.{lowest, braked}
 use Rattle.step.specs.Step.{movedOf, answerOf, judgedOf, stepOf}
+use Rattle.step_laws.specs.Walk.{atBeacon}
 use Rattle.step_laws.specs.Unseen.{BrakeUnseen}
 use Rattle.step_laws.proofs.Lamps.{lamps-else}
 
-module _ (c : Brake) where
-  -- of a desk with brake c in place of its own f gives what it gives of the desk, with `put` done to that
-  record Unseen {A : Type 0} (put : A → A) (f : Desk → A) : Type 0 where
-    at : (d : Desk) → f (withBrake c d) ≡ put (f d)
+-- what a desk gets in place of its own: another brake, or another last code
+pub data Other : Type 0 where
+  other-brake : Brake → Other
+  other-code : ℕ → Other
 
-  -- a step that does not look at the brake, and leaves it as it is
-  abbrev Blind : (Desk → Desk) → Type 0
-  Blind f = Unseen (withBrake c) f
+abbrev brakeOr : Other → Brake → Brake
+brakeOr (other-brake c) b = c
+brakeOr (other-code n) b = b
 
-  -- a turn, with brake c on its desk
-  abbrev turnWith : Turn → Turn
-  turnWith t = record { desk = withBrake c (t .desk); cause = t .cause }
+abbrev codeOr : Other → ℕ → ℕ
+codeOr (other-brake c) n = n
+codeOr (other-code m) n = m
+
+module _ (o : Other) where
+  abbrev pub swapped : Desk → Desk
+  swapped d = withBrake (brakeOr o (d .brake)) (withCode (codeOr o (d .code)) d)
+
+  -- of a desk with the other in place of its own f gives what it gives of the desk, with `put` done to that
+  pub record Unseen {A : Type 0} (put : A → A) (f : Desk → A) : Type 0 where
+    pub at : (d : Desk) → f (swapped d) ≡ put (f d)
+
+  -- a step that does not look at it, and leaves it as it is
+  abbrev pub Blind : (Desk → Desk) → Type 0
+  Blind f = Unseen swapped f
+
+  -- a turn, with the other on its desk
+  abbrev pub turnWith : Turn → Turn
+  turnWith t = record { desk = swapped (t .desk); cause = t .cause }
 
   -- ---- nothing, one step after another, and a choice
 
@@ -237,7 +254,7 @@ module _ (c : Brake) where
   reading7-blind zones =
       record {
         at = λ d.
-            ap (λ (t : Bool). zoneOr (t && zones) (mainCounts (withBrake c d))) (zone-met .at d)
+            ap (λ (t : Bool). zoneOr (t && zones) (mainCounts (swapped d))) (zone-met .at d)
             ∙ (main-counts then zone-or (zoneMet d && zones)) .at d;
       }
 
@@ -263,34 +280,60 @@ module _ (c : Brake) where
   read-if true code protects zones = reading-of code protects zones
   read-if false code protects zones = same
 
-  beacon-turn : (code : ℕ) (protects zones reads : Bool) → Unseen turnWith (beaconTaken code protects zones reads)
+  -- what is not the last code
+  abbrev pub Keeps : Type 0
+  Keeps = (n : ℕ) → codeOr o n ≡ n
+
+  -- the beacon's step looks at the last code, and at no more
+  beacon-turn : Keeps → (code : ℕ) (protects zones f3 : Bool) → Unseen turnWith (beaconTaken code protects zones f3)
   unfolding beaconTaken
-  beacon-turn code protects zones reads =
+  beacon-turn keeps code protects zones f3 =
       record {
         at = λ d.
-            ap (λ (e : Desk). record { desk = e; cause = beaconTaken code protects zones reads d .cause })
+            let taken : ℕ → Desk → Turn = λ last e.
+            record {
+              desk = readIf (readsOf code f3 (d .bts) last) code protects zones e;
+              cause = pick (readsOf code f3 (d .bts) last && eqb code 8 && not (d .armed .armed)) 4 0;
+            } in
+            ap (λ (last : ℕ). taken last (withCode code (swapped d))) (keeps (d .code))
+            ∙ ap (λ (n : ℕ). taken (d .code) (withCode n (swapped d))) (sym (keeps code))
+            ∙ ap (λ (e : Desk). record { desk = e; cause = beaconTaken code protects zones f3 d .cause })
             (read-if _ code protects zones .at (withCode code d));
       }
 
   -- ---- all the steps before the speed's
 
   module _ (s : Settings) (top : ℕ) (x : Input) where
-    -- buttons and beacon
+    abbrev first : Desk → Turn
+    first d = begun (x .bts) (x .m) (reminds (s .functions)) (s .x) (s .y) d
+
+    -- to the beacon
+    pub at-beacon : Blind (atBeacon s top x)
+    at-beacon =
+        record {
+          at = λ d.
+              ap (λ (t : Turn). pressesOf (x .buttons) (x .m) (s .limit) top (t .desk)) (begun-turn _ _ _ _ _ .at d)
+              ∙ presses _ _ _ _ .at (first d .desk);
+        }
+
+    pub first-cause : (d : Desk) → first (swapped d) .cause ≡ first d .cause
+    first-cause d = ap (λ (t : Turn). t .cause) (begun-turn _ _ _ _ _ .at d)
+
+    -- and with it
     abbrev after : Turn → Turn
     after t =
         let pressed : Desk = pressesOf (x .buttons) (x .m) (s .limit) top (t .desk) in
         let read : Turn = beaconTaken (x .beacon) (protects (s .functions)) (zones (s .functions)) (readsInBts (s .functions)) pressed in
         record { desk = read .desk; cause = lowest (t .cause) (read .cause) }
 
-    moved-turn : Unseen turnWith (movedOf s top x)
+    moved-turn : Keeps → Unseen turnWith (movedOf s top x)
     unfolding movedOf
-    moved-turn =
+    moved-turn keeps =
         record {
           at = λ d.
-              let first : Turn = begun (x .bts) (x .m) (reminds (s .functions)) (s .x) (s .y) d in
               ap after (begun-turn _ _ _ _ _ .at d)
-              ∙ ap (λ (t : Turn). record { desk = t .desk; cause = lowest (first .cause) (t .cause) })
-              ((presses _ _ _ _ then beacon-turn _ _ _ _) .at (first .desk));
+              ∙ ap (λ (t : Turn). record { desk = t .desk; cause = lowest (first d .cause) (t .cause) })
+              ((presses _ _ _ _ then beacon-turn keeps _ _ _ _) .at (first d .desk));
         }
 
 -- ---- of every sample
@@ -302,7 +345,7 @@ module _ (s : Settings) (top : ℕ) (x : Input) (d : Desk) (other : Brake) where
   -- the steps before the speed's leave the desk that is judged, with the other brake
   judged : stepOf s top x (withBrake other d) ≡ judgedOf s top x (moved .cause) (withBrake other (moved .desk))
   unfolding stepOf
-  judged = ap (λ (t : Turn). judgedOf s top x (t .cause) (t .desk)) (moved-turn other s top x .at d)
+  judged = ap (λ (t : Turn). judgedOf s top x (t .cause) (t .desk)) (moved-turn (other-brake other) s top x (λ n. refl) .at d)
 
   lamps : (k : ℕ) → (k ≡ 10 → ⊥) → bitOf (stepOf s top x (withBrake other d) .answer .lamps) (2 ^ k) ≡ bitOf (stepOf s top x d .answer .lamps) (2 ^ k)
   unfolding stepOf judgedOf answerOf crossingTurned braked

@@ -69,8 +69,9 @@ module _ (s : Settings) (top : ℕ) (x : Input) (d : Desk) where
     pub unread : x .beacon ≡ 12 → reads s x d ≡ false
     pub nothing-taken : x .beacon ≡ 12 → movedOf s top x d .desk ≡ withCode 12 (atBeacon s top x d)
     pub nothing-arisen : x .beacon ≡ 12 → movedOf s top x d .cause ≡ begun (x .bts) (x .m) (reminds (s .functions)) (s .x) (s .y) d .cause
-    -- "yet the code after it counts as changed": a beacon behind it is read, in BTS where function 3 reads it
+    -- "yet the code after it counts as changed": a beacon behind it is read, in BTS where function 3 reads it; and the whole sample is as behind a 0
     pub read-after : d .code ≡ 12 → 1 ≤ x .beacon → x .beacon ≤ 11 → reads s x d ≡ (not (x .bts) || isSide (x .beacon) && readsInBts (s .functions))
+    pub counts-changed : 1 ≤ x .beacon → x .beacon ≤ 11 → stepOf s top x (withCode 12 d) ≡ stepOf s top x (withCode 0 d)
     -- a sample without it is as before, and leaves no cause above 5 where none stood
     pub as-before : (x .beacon ≡ 12 → ⊥) → stepOf s top x d ≡ stepBefore s top x d
     pub stays-low : (x .beacon ≡ 12 → ⊥) → d .brake .cause ≤ 5 → stepOf s top x d .desk .brake .cause ≤ 5
