@@ -29,7 +29,7 @@ pub ended-prints : (columns : Columns) (r : Ride) (recording : List ℕ) (k j : 
 ended-prints columns r recording k zero e = ap (linesOf columns r recording) (add-zero k)
 ended-prints columns r recording k (suc j) e =
     ap (linesOf columns r recording) (add-suc k j) ∙ lines-suc columns r recording (k + j)
-    ∙ rw (ended-stays r recording k j e, ended-shows (rideAfter r recording k) recording (k + j) e, nothing-prints, append-nil) (ended-prints columns r recording k j e)
+    ∙ rw (ended-stays r recording 0 k j e, ended-shows (rideAfter r recording k) recording (k + j) e, nothing-prints, append-nil) (ended-prints columns r recording k j e)
 
 -- an answered sample prints its line, numbered from 1, behind the lines before it
 pub answered-prints : (columns : Columns) (r : Ride) (recording : List ℕ) (k : ℕ) (a : Told) → turnAt (rideAfter r recording k) recording k .shown ≡ shown.Answered a

@@ -13,7 +13,7 @@ use Rattle.card.specs.declared.Settings.{Settings}
 use Rattle.card.specs.Reading.{readCard}
 use Rattle.step.specs.declared.Answer.{Answer as Told}
 use Rattle.session.specs.declared.Session.{Session}
-use Rattle.rides.specs.Recording.{samplesIn, sampleAt, firstSamples, samplesOf}
+use Rattle.rides.specs.Recording.{samplesIn, sampleAt, samplesFrom, firstSamples, samplesOf}
 use Rattle.rides.specs.Ride.{startRide, freshRide, shownOf, turnShows, turnAt, rideAfter, shownBy, shownFrom, wholeRide}
 use Rattle.rides.specs.declared.ride.Ride.{Ride}
 use Rattle.rides.specs.declared.ride.Shown.{Shown}
@@ -69,7 +69,7 @@ no-text columns n m = refl
 
 -- before the first sample there is nothing
 none-shown : (r : Ride) (recording : List ℕ) → shownBy r (firstSamples recording zero) ≡ []
-unfolding firstSamples shownBy
+unfolding samplesFrom shownBy
 none-shown r recording = refl
 
 no-lines : (columns : Columns) → flatten (linesFrom columns 1 []) ≡ []

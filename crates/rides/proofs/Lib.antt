@@ -1,4 +1,5 @@
 pub mod Recordings
 pub mod Runs
+pub mod Replays
 pub mod Refusals
 pub mod Determined

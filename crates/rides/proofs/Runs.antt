@@ -1,7 +1,7 @@
--- A ride and a list of samples. The ride of a recording is the run of its samples in order; a run of one list and then another is the run
+-- A ride and a list of samples. The ride of a recording from a place on is the run of its samples in order; a run of one list and then another is the run
 -- of both; from a session that was opened it shows what the session answers, until the first refusal.
 use Prim.Native.Nat.{ℕ, zero, suc, _+_}
-use native.Mathlib.Nat.{add-zero, add-suc}
+use native.Mathlib.Nat.{zero-add, add-zero, add-suc}
 use mathlib.Core.Path.{_≡_, refl, sym, ap, _∙_}
 use mathlib.Core.Bool.{Bool, true, false}
 use mathlib.Core.List.{List, [], _∷_, _++_, map, append-nil, append-assoc}
@@ -18,8 +18,8 @@ use Rattle.session.specs.declared.Outcome.the-variants.{Refused}
 use Rattle.session.specs.Session.{refusedBy, carried, stepped, ranOf, sampleOf, outcomeOf, answerTo}
 use Rattle.session.specs.Runs.{accepted, after, outcomes, allAccepted}
 use Rattle.session.proofs.Paper.{sample-paper}
-use Rattle.rides.specs.Recording.{sampleAt, firstSamples}
-use Rattle.rides.specs.Ride.{freshRide, toldOf, turnOf, shownOf, turnShows, turnAt, rideAfter, runOf, shownBy, untilRefused}
+use Rattle.rides.specs.Recording.{sampleAt, samplesFrom, firstSamples}
+use Rattle.rides.specs.Ride.{freshRide, toldOf, turnOf, shownOf, turnShows, turnAt, rideFrom, rideAfter, runOf, shownBy, untilRefused}
 use Rattle.rides.specs.declared.ride.Ride.{Ride}
 use Rattle.rides.specs.declared.ride.Shown.the-variants.{Nothing}
 use Rattle.rides.specs.declared.ride.Turned.{Turned}
@@ -85,20 +85,21 @@ ended-run r (x ∷ xs) e = let rest = ended-run r xs e in (rw e (rest .0), rw e 
 
 -- ---- a recording's ride is the run of its samples in order
 
-pub recording-run : (r : Ride) (recording : List ℕ) (k : ℕ) → rideAfter r recording k ≡ runOf r (firstSamples recording k)
-unfolding rideAfter turnAt firstSamples runOf
-recording-run r recording zero = refl
-recording-run r recording (suc k) =
-    ap (λ (q : Ride). turnOf q (sampleAt recording k) .ride) (recording-run r recording k)
-    ∙ sym (run-append r (firstSamples recording k) (sampleAt recording k ∷ []))
+pub recording-run : (r : Ride) (recording : List ℕ) (place k : ℕ) → rideFrom r recording place k ≡ runOf r (samplesFrom recording place k)
+unfolding rideFrom turnAt samplesFrom runOf
+recording-run r recording place zero = refl
+recording-run r recording place (suc k) =
+    ap (λ (q : Ride). turnOf q (sampleAt recording (place + k)) .ride) (recording-run r recording place k)
+    ∙ sym (run-append r (samplesFrom recording place k) (sampleAt recording (place + k) ∷ []))
 
 -- and each turn shows what comes next
-pub recording-shows : (r : Ride) (recording : List ℕ) (k : ℕ)
-    → shownBy r (firstSamples recording (suc k)) ≡ shownBy r (firstSamples recording k) ++ shownOf (turnAt (rideAfter r recording k) recording k .shown)
-unfolding turnAt firstSamples shownBy
-recording-shows r recording k =
-    shown-append r (firstSamples recording k) (sampleAt recording k ∷ [])
-    ∙ rw (← recording-run r recording k, turn-paper (rideAfter r recording k) (sampleAt recording k)) (rw append-nil)
+pub shows-from : (r : Ride) (recording : List ℕ) (place k : ℕ)
+    → shownBy r (samplesFrom recording place (suc k))
+    ≡ shownBy r (samplesFrom recording place k) ++ shownOf (turnAt (rideFrom r recording place k) recording (place + k) .shown)
+unfolding turnAt samplesFrom shownBy
+shows-from r recording place k =
+    shown-append r (samplesFrom recording place k) (sampleAt recording (place + k) ∷ [])
+    ∙ rw (← recording-run r recording place k, turn-paper (rideFrom r recording place k) (sampleAt recording (place + k))) (rw append-nil)
 
 -- ---- from a session
 
@@ -172,9 +173,10 @@ shown-alike s t xs ys n e =
 -- ---- the end of a recording's ride
 
 -- one sample more is one turn more
-pub after-suc : (r : Ride) (recording : List ℕ) (k : ℕ) → rideAfter r recording (suc k) ≡ turnAt (rideAfter r recording k) recording k .ride
-unfolding rideAfter
-after-suc r recording k = refl
+pub from-suc : (r : Ride) (recording : List ℕ) (place k : ℕ)
+    → rideFrom r recording place (suc k) ≡ turnAt (rideFrom r recording place k) recording (place + k) .ride
+unfolding rideFrom
+from-suc r recording place k = refl
 
 -- a ride that has ended shows nothing more
 pub ended-shows : (r : Ride) (recording : List ℕ) (k : ℕ) → eqb (r .ended) 0 ≡ false → turnAt r recording k .shown ≡ Nothing
@@ -186,9 +188,26 @@ unfolding turnAt turnOf
 ended-turn r recording k e = rw e
 
 -- and stays as it is
-pub ended-stays : (r : Ride) (recording : List ℕ) (k j : ℕ) → eqb (rideAfter r recording k .ended) 0 ≡ false
-    → rideAfter r recording (k + j) ≡ rideAfter r recording k
-ended-stays r recording k zero e = ap (rideAfter r recording) (add-zero k)
-ended-stays r recording k (suc j) e =
-    ap (rideAfter r recording) (add-suc k j) ∙ after-suc r recording (k + j)
-    ∙ ap (λ (q : Ride). turnAt q recording (k + j) .ride) (ended-stays r recording k j e) ∙ ended-turn (rideAfter r recording k) recording (k + j) e
+pub ended-stays : (r : Ride) (recording : List ℕ) (place k j : ℕ) → eqb (rideFrom r recording place k .ended) 0 ≡ false
+    → rideFrom r recording place (k + j) ≡ rideFrom r recording place k
+ended-stays r recording place k zero e = ap (rideFrom r recording place) (add-zero k)
+ended-stays r recording place k (suc j) e =
+    ap (rideFrom r recording place) (add-suc k j) ∙ from-suc r recording place (k + j)
+    ∙ ap (λ (q : Ride). turnAt q recording (place + (k + j)) .ride) (ended-stays r recording place k j e)
+    ∙ ended-turn (rideFrom r recording place k) recording (place + (k + j)) e
+
+-- ---- from place 0, which no sample stands before
+
+pub first-suc : (recording : List ℕ) (k : ℕ) → firstSamples recording (suc k) ≡ firstSamples recording k ++ sampleAt recording k ∷ []
+unfolding samplesFrom
+first-suc recording k = ap (λ (j : ℕ). samplesFrom recording 0 k ++ sampleAt recording j ∷ []) (zero-add k)
+
+pub after-suc : (r : Ride) (recording : List ℕ) (k : ℕ) → rideAfter r recording (suc k) ≡ turnAt (rideAfter r recording k) recording k .ride
+after-suc r recording k =
+    from-suc r recording 0 k ∙ ap (λ (j : ℕ). turnAt (rideAfter r recording k) recording j .ride) (zero-add k)
+
+pub recording-shows : (r : Ride) (recording : List ℕ) (k : ℕ)
+    → shownBy r (firstSamples recording (suc k)) ≡ shownBy r (firstSamples recording k) ++ shownOf (turnAt (rideAfter r recording k) recording k .shown)
+recording-shows r recording k =
+    shows-from r recording 0 k
+    ∙ ap (λ (j : ℕ). shownBy r (firstSamples recording k) ++ shownOf (turnAt (rideAfter r recording k) recording j .shown)) (zero-add k)

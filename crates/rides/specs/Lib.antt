@@ -1,2 +1,3 @@
 pub mod Recording
 pub mod Ride
+pub mod Replay

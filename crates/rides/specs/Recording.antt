@@ -50,10 +50,14 @@ sampleAt recording k =
       mode = byte recording (placeOf k + 5);
     }
 
--- the first k samples, in order
-unfoldable pub firstSamples : List ℕ → ℕ → List Sample
-firstSamples recording zero = []
-firstSamples recording (suc k) = firstSamples recording k ++ sampleAt recording k ∷ []
+-- k samples in order, the first of them the one that `place` samples stand before
+unfoldable pub samplesFrom : List ℕ → ℕ → ℕ → List Sample
+samplesFrom recording place zero = []
+samplesFrom recording place (suc k) = samplesFrom recording place k ++ sampleAt recording (place + k) ∷ []
+
+-- the first k samples
+abbrev pub firstSamples : List ℕ → ℕ → List Sample
+firstSamples recording k = samplesFrom recording 0 k
 
 -- all of them
 abbrev pub samplesOf : List ℕ → List Sample

@@ -1,5 +1,5 @@
 -- A ride: a session and its samples one after the other, until one is refused. Defined by the number of samples run, forward.
-use Prim.Native.Nat.{ℕ, zero, suc}
+use Prim.Native.Nat.{ℕ, zero, suc, _+_}
 use mathlib.Core.List.{List, [], _∷_, _++_}
 use lib.Dec.{eqb}
 use Rattle.leaf.specs.Choosing.{pick}
@@ -59,10 +59,14 @@ turnShows r x = pick (eqb (r .ended) 0) (answerTo (r .session) x ∷ []) []
 unfoldable pub turnAt : Ride → List ℕ → ℕ → Turned
 turnAt r recording k = turnOf r (sampleAt recording k)
 
+-- the ride after k samples, the first of them the one that `place` samples of the recording stand before
+unfoldable pub rideFrom : Ride → List ℕ → ℕ → ℕ → Ride
+rideFrom r recording place zero = r
+rideFrom r recording place (suc k) = turnAt (rideFrom r recording place k) recording (place + k) .ride
+
 -- the ride after its first k samples
-unfoldable pub rideAfter : Ride → List ℕ → ℕ → Ride
-rideAfter r recording zero = r
-rideAfter r recording (suc k) = turnAt (rideAfter r recording k) recording k .ride
+abbrev pub rideAfter : Ride → List ℕ → ℕ → Ride
+rideAfter r recording k = rideFrom r recording 0 k
 
 -- ---- the same over a list of samples
 

@@ -110,7 +110,7 @@ impl Session {
     }
 
     // Is every number of the session in its range.
-    fn is_inside(self) -> bool
+    pub fn is_inside(self) -> bool
         ensures { λ r. ⌜ r ≡ insideOf self ⌝ }
     {
         let settings = self.settings;

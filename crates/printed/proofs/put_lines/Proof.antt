@@ -5,7 +5,8 @@ use mathlib.Core.Path.{_≡_, refl}
 use lib.ListN.{length}
 use borrow.Author.Needs.{needs}
 use Rattle.text.specs.Typing.{then-typed, typed}
-use Rattle.rides.specs.Ride.{rideAfter}
+use Rattle.rides.specs.Ride.{rideFrom, rideAfter}
+use Rattle.rides.proofs.Runs.{after-suc}
 use Rattle.printed.specs.Printed.{linesOf}
 use Rattle.printed.proofs.put_lines.Statement.{statement}
 use Rattle.printed.proofs.put_lines.Tie as tie
@@ -17,17 +18,17 @@ abbrev μ-loop : tie.MeasureT-loop
 μ-loop columns recording n out₀ at place₀ going₀ k₀ out place going k = n - k
 
 loop-holds : tie.Need-loop-holds Inv-loop μ-loop
-unfolding rideAfter linesOf typed
+unfolding rideFrom linesOf typed
 loop-holds c = (omega arith, omega arith, refl, refl)
 
 loop-again : tie.Need-loop-again Inv-loop μ-loop
-unfolding rideAfter linesOf
+unfolding linesOf
 loop-again c =
     let l = c .before .before .before .before .before .before .before .loop in
     let turned = c .before .before .before .before .before .turn-at .ensures .0 in (
       omega arith,
       omega arith,
-      rw (add-one, turned, l .inv .2),
+      rw (add-one, after-suc, turned, l .inv .2),
       rw add-one (then-typed _ _ _ (l .inv .3) (rw (add-one, turned, l .inv .2) at (c .before .before .before .put-shown .ensures))),
     )
 
