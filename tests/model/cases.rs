@@ -151,3 +151,12 @@ fn meet_tone(area: &[u8], tone: f32) -> Vec<&'static str> {
 pub fn hex(bytes: &[u8]) -> String {
     bytes.iter().map(|byte| format!("{byte:02x}")).collect()
 }
+
+/// Bytes as a case has them: none are a dash.
+pub fn written_bytes(bytes: &[u8]) -> String {
+    if bytes.is_empty() { "-".to_string() } else { hex(bytes) }
+}
+
+pub fn bytes_in(text: &str) -> Vec<u8> {
+    if text == "-" { Vec::new() } else { unhex(text) }
+}
