@@ -18,6 +18,9 @@ mod quiet;
 mod quiet_check;
 mod receive;
 mod receive_check;
+mod replay;
+mod replay_check;
+mod replays;
 mod ride;
 mod stand;
 mod stand_check;
@@ -30,6 +33,7 @@ use std::io::{self, Read, Write};
 const USAGE: &str = "model run CARD < RECORDING
 model ride CARD < RECORDING
 model receive CARD LENGTH[,LENGTH..] < LINE
+model replay CARD QUOTA.. < RECORDING
 model cover CARD < RECORDING
 model cover-pieces|cover-tones < BATCH
 model answer < BATCH
@@ -51,6 +55,10 @@ fn main() -> io::Result<()> {
                 usage(); // it goes on to the end of the line
             }
             pieces::print(&std::fs::read(file)?, &input()?, &lengths, &mut out)?
+        }
+        ["replay", file, ref quotas @ ..] if !quotas.is_empty() => {
+            let quotas: Vec<u64> = quotas.iter().map(|digits| replay::quota(digits).unwrap_or_else(|| usage())).collect();
+            replay::print(&std::fs::read(file)?, &input()?, &quotas, &mut out)?
         }
         ["cover", file] => {
             for (key, count) in ride::cover(&std::fs::read(file)?, &input()?) {
