@@ -20,6 +20,11 @@ mod receive;
 mod receive_check;
 mod replay;
 mod replay_check;
+mod replay_damage;
+mod replay_laws;
+mod replay_make;
+mod replay_rows;
+mod replay_runs;
 mod replays;
 mod ride;
 mod stand;
@@ -35,9 +40,9 @@ model ride CARD < RECORDING
 model receive CARD LENGTH[,LENGTH..] < LINE
 model replay CARD QUOTA.. < RECORDING
 model cover CARD < RECORDING
-model cover-pieces|cover-tones < BATCH
+model cover-pieces|cover-replays|cover-tones < BATCH
 model answer < BATCH
-model make cards|settings|tones|pieces SEED SIZE > BATCH
+model make cards|settings|tones|pieces|replays SEED SIZE > BATCH
 model make-ride random|answers|drive|long|stand|quiet|damaged SEED SAMPLES CARDFILE RECFILE
 model make-line SEED CARDFILE LINEFILE
 model self";
@@ -68,6 +73,11 @@ fn main() -> io::Result<()> {
         [what @ ("cover-pieces" | "cover-tones")] => {
             let cover = if what == "cover-pieces" { pieces::cover } else { cases::cover_tones };
             for (row, count) in cover(&io::read_to_string(io::stdin())?) {
+                writeln!(out, "{count} {row}")?;
+            }
+        }
+        ["cover-replays"] => {
+            for (row, count) in replay_rows::cover(&io::read_to_string(io::stdin())?) {
                 writeln!(out, "{count} {row}")?;
             }
         }

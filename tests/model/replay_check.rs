@@ -1,4 +1,5 @@
-//! Checks of replay: document 02 d), as its readings d1 to d7 have it. Card A, train type 6, tick 100, where no other is named.
+//! Checks of replay: document 02 d), as its readings d1 to d7 have it. Card A, train type 6, tick 100, where no other is named;
+//! those of rides by seed are in replay_laws.rs.
 
 use crate::cards::{unhex, CARD_A};
 use crate::cases::{answer, hex};

@@ -2,7 +2,7 @@
 
 use crate::card;
 use crate::cards::unhex;
-use crate::cases::bytes_in;
+use crate::cases::{bytes_in, written_bytes};
 use crate::desk::Session;
 use crate::replay::{five, replay, Handed, Replayed};
 
@@ -32,6 +32,13 @@ pub fn case_in(text: &str) -> Case {
         recording: bytes_in(recording),
         calls: calls.split(',').map(call_in).collect(),
     }
+}
+
+/// The case as it stands in a batch, without its first word.
+pub fn written(case: &Case) -> String {
+    let calls: Vec<String> = case.calls.iter().map(|(place, quota)| format!("{place}:{quota}")).collect();
+    let (card, recording) = (written_bytes(&case.card), written_bytes(&case.recording));
+    format!("{:02x} {:02x} {card} {recording} {}", case.train, case.steps, calls.join(","))
 }
 
 /// The card is read (highest 2) and a session opened on it for this train type, not the recording's.
