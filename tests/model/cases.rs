@@ -1,9 +1,10 @@
-//! Cases of cards, tones and recordings in pieces, a line each, in the notation of tests/compare/README.md: what each is
-//! answered with, and what a batch of tones meets.
+//! Cases of cards, tones, recordings in pieces and replays, a line each, in the notation of tests/compare/README.md: what each
+//! is answered with, and what a batch of tones meets.
 
 use crate::card::{self, big_endian};
 use crate::cards::unhex;
 use crate::pieces;
+use crate::replays;
 use crate::tone::{self, Tone};
 use std::io::{self, Write};
 
@@ -19,6 +20,8 @@ pub fn answer(text: &str, out: &mut impl Write) -> io::Result<()> {
             "tone" => writeln!(out, "{line}: {}", classify(&area, &unhex(digits)))?,
             "pieces" => write!(out, "{line}\n{}", pieces::answer_pieces(digits))?,
             "cuts" => write!(out, "{line}\n{}", pieces::answer_cuts(digits))?,
+            "replay" => write!(out, "{line}\n{}", replays::answer_replay(digits))?,
+            "splits" => write!(out, "{line}\n{}", replays::answer_splits(digits))?,
             _ => writeln!(out, "{line}")?,
         }
     }
@@ -150,4 +153,13 @@ fn meet_tone(area: &[u8], tone: f32) -> Vec<&'static str> {
 
 pub fn hex(bytes: &[u8]) -> String {
     bytes.iter().map(|byte| format!("{byte:02x}")).collect()
+}
+
+/// Bytes as a case has them: none are a dash.
+pub fn written_bytes(bytes: &[u8]) -> String {
+    if bytes.is_empty() { "-".to_string() } else { hex(bytes) }
+}
+
+pub fn bytes_in(text: &str) -> Vec<u8> {
+    if text == "-" { Vec::new() } else { unhex(text) }
 }

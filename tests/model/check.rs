@@ -1,12 +1,14 @@
 //! The model's own checks: the paper's ride, "Both sides of each line", tones and cards; those of the receiver are in
-//! receive_check.rs, those of standstill in stand_check.rs, those of the quiet pickup in quiet_check.rs. tests/compare/run
-//! has it print the lessons and the readings too.
+//! receive_check.rs, those of standstill in stand_check.rs, those of the quiet pickup in quiet_check.rs, those of replay in
+//! replay_check.rs and replay_laws.rs. tests/compare/run has it print the lessons and the readings too.
 
 use crate::card::{self, refused, refused_at, Row, Settings};
 use crate::cards::{unhex, CARD_A, CARD_P, CARD_R, CARD_R2, CARD_RL};
 use crate::desk::{Answer, Main, Sample, Session};
 use crate::quiet_check;
 use crate::receive_check;
+use crate::replay_check;
+use crate::replay_laws;
 use crate::ride::print;
 use crate::stand_check;
 use crate::tone::{classify, sheet, Tone};
@@ -42,6 +44,8 @@ pub fn all(out: &mut impl Write) -> io::Result<usize> {
     receive_check::all(&mut checks);
     stand_check::all(&mut checks);
     quiet_check::all(&mut checks);
+    replay_check::all(&mut checks);
+    replay_laws::all(&mut checks);
     for line in &checks.failed {
         writeln!(out, "failed: {line}")?;
     }

@@ -84,7 +84,7 @@ fn bend_frame(rng: &mut Rng, bytes: &mut Vec<u8>) {
     }
 }
 
-fn restate(bytes: &mut [u8]) {
+pub fn restate(bytes: &mut [u8]) {
     if bytes.len() >= 4 {
         let length = bytes.len() as u32;
         bytes[..4].copy_from_slice(&length.to_be_bytes());

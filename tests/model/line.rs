@@ -1,9 +1,10 @@
 //! Recordings as they come over a line, by seed: good and damaged ones, cut into pieces.
 
+use crate::cases::written_bytes;
 use crate::damage::bend_sample;
 use crate::desk::{train_speed, Sample};
 use crate::make::{card_area, Rng};
-use crate::pieces::{written, written_card, Call};
+use crate::pieces::{written, Call};
 use crate::ride::recorded;
 use crate::steer::{fresh, run};
 
@@ -48,7 +49,7 @@ pub fn batch(seed: u64, size: u64) -> String {
     (0..size).map(|turn| {
         let kind = TURNS[turn as usize % TURNS.len()];
         let line = line(&mut rng, kind);
-        format!("pieces {} {}\n", written_card(&line.card), written(&in_pieces(&mut rng, kind, &line.bytes)))
+        format!("pieces {} {}\n", written_bytes(&line.card), written(&in_pieces(&mut rng, kind, &line.bytes)))
     }).collect()
 }
 
@@ -93,7 +94,7 @@ impl Line {
                 }
             }
             Kind::Card => {
-                self.bend_card(rng);
+                bend_card(rng, &mut self.card);
                 if rng.chance(20) {
                     self.change_byte(rng);
                 }
@@ -174,20 +175,6 @@ impl Line {
         }
     }
 
-    /// Each refusal of a card, or any card.
-    fn bend_card(&mut self, rng: &mut Rng) {
-        let whole = self.card.len() as i64;
-        match rng.within(0, 7) {
-            0 => self.card.truncate(rng.within(0, 2) as usize),
-            1 => self.card.truncate(rng.within(3, whole.min(38)) as usize),
-            2 => self.card[2] = 0,
-            3 => self.card[2] = 3,
-            4 => self.card[1] = rng.pick(&[38, 40, 43, 45]),
-            5 => self.card[rng.pick(&[3, 6, 7, 8, 10])] = 0,
-            _ => self.card = card_area(rng),
-        }
-    }
-
     /// Types beside the ends of what refusal 7 allows.
     fn bend_type(&mut self, rng: &mut Rng) {
         let last = (1..=8).filter(|train| train_speed(*train) <= self.vmax as i64).last().unwrap();
@@ -221,6 +208,20 @@ impl Line {
             *byte = bent;
         }
         at
+    }
+}
+
+/// Each refusal of a card, or any card.
+pub fn bend_card(rng: &mut Rng, card: &mut Vec<u8>) {
+    let whole = card.len() as i64;
+    match rng.within(0, 7) {
+        0 => card.truncate(rng.within(0, 2) as usize),
+        1 => card.truncate(rng.within(3, whole.min(38)) as usize),
+        2 => card[2] = 0,
+        3 => card[2] = 3,
+        4 => card[1] = rng.pick(&[38, 40, 43, 45]),
+        5 => card[rng.pick(&[3, 6, 7, 8, 10])] = 0,
+        _ => *card = card_area(rng),
     }
 }
 

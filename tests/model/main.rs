@@ -18,6 +18,14 @@ mod quiet;
 mod quiet_check;
 mod receive;
 mod receive_check;
+mod replay;
+mod replay_check;
+mod replay_damage;
+mod replay_laws;
+mod replay_make;
+mod replay_rows;
+mod replay_runs;
+mod replays;
 mod ride;
 mod stand;
 mod stand_check;
@@ -30,10 +38,11 @@ use std::io::{self, Read, Write};
 const USAGE: &str = "model run CARD < RECORDING
 model ride CARD < RECORDING
 model receive CARD LENGTH[,LENGTH..] < LINE
+model replay CARD QUOTA.. < RECORDING
 model cover CARD < RECORDING
-model cover-pieces|cover-tones < BATCH
+model cover-pieces|cover-replays|cover-tones < BATCH
 model answer < BATCH
-model make cards|settings|tones|pieces SEED SIZE > BATCH
+model make cards|settings|tones|pieces|replays SEED SIZE > BATCH
 model make-ride random|answers|drive|long|stand|quiet|damaged SEED SAMPLES CARDFILE RECFILE
 model make-line SEED CARDFILE LINEFILE
 model self";
@@ -52,6 +61,10 @@ fn main() -> io::Result<()> {
             }
             pieces::print(&std::fs::read(file)?, &input()?, &lengths, &mut out)?
         }
+        ["replay", file, ref quotas @ ..] if !quotas.is_empty() => {
+            let quotas: Vec<u64> = quotas.iter().map(|digits| replay::quota(digits).unwrap_or_else(|| usage())).collect();
+            replay::print(&std::fs::read(file)?, &input()?, &quotas, &mut out)?
+        }
         ["cover", file] => {
             for (key, count) in ride::cover(&std::fs::read(file)?, &input()?) {
                 writeln!(out, "{key} {count}")?;
@@ -60,6 +73,11 @@ fn main() -> io::Result<()> {
         [what @ ("cover-pieces" | "cover-tones")] => {
             let cover = if what == "cover-pieces" { pieces::cover } else { cases::cover_tones };
             for (row, count) in cover(&io::read_to_string(io::stdin())?) {
+                writeln!(out, "{count} {row}")?;
+            }
+        }
+        ["cover-replays"] => {
+            for (row, count) in replay_rows::cover(&io::read_to_string(io::stdin())?) {
                 writeln!(out, "{count} {row}")?;
             }
         }

@@ -9,19 +9,21 @@ pub fn on(card: &str) -> Session {
     Session::open(card::read(2, &unhex(card)).unwrap(), 6).unwrap()
 }
 
-/// "A sample is pulses/beacon/buttons/mode, trailing zeros and mode 1 left out, n× repeats." What each is answered with;
-/// the session goes on behind a refused one.
-pub fn run(session: &mut Session, text: &str) -> Vec<Result<Answer, u8>> {
-    let mut answers = Vec::new();
+/// "A sample is pulses/beacon/buttons/mode, trailing zeros and mode 1 left out, n× repeats."
+pub fn samples(text: &str) -> Vec<Sample> {
+    let mut samples = Vec::new();
     for words in text.split(", ") {
         let (times, fields) = words.split_once('×').unwrap_or(("1", words));
         let fields: Vec<u16> = fields.split('/').map(|field| field.parse().unwrap()).collect();
         let field = |place: usize, left_out: u16| fields.get(place).copied().unwrap_or(left_out);
         let (beacon, mode) = (field(1, 0) as u8, field(3, 1) as u8);
         let sample = Sample { pulses: field(0, 0), beacon, buttons: field(2, 0), mode };
-        for _ in 0..times.parse().unwrap() {
-            answers.push(session.sample(sample));
-        }
+        samples.extend(vec![sample; times.parse().unwrap()]);
     }
-    answers
+    samples
+}
+
+/// What each sample is answered with; the session goes on behind a refused one.
+pub fn run(session: &mut Session, text: &str) -> Vec<Result<Answer, u8>> {
+    samples(text).into_iter().map(|sample| session.sample(sample)).collect()
 }

@@ -2,7 +2,7 @@
 //! batch of them meets.
 
 use crate::cards::unhex;
-use crate::cases::hex;
+use crate::cases::{bytes_in, hex};
 use crate::desk::{train_speed, Sample, CODE_TOP};
 use crate::receive::{line, Desk, Receiver, Status};
 use crate::ride;
@@ -41,15 +41,6 @@ pub fn written(calls: &[Call]) -> String {
     }).collect()
 }
 
-/// A card's bytes as a case has them: none is a dash.
-pub fn written_card(card: &[u8]) -> String {
-    if card.is_empty() { "-".to_string() } else { hex(card) }
-}
-
-fn card_in(text: &str) -> Vec<u8> {
-    if text == "-" { Vec::new() } else { unhex(text) }
-}
-
 /// The lines that a call shows.
 pub fn call(receiver: &mut Receiver, call: &Call) -> String {
     match call {
@@ -76,7 +67,7 @@ pub fn answers(card: &[u8], calls: &[Call]) -> String {
 /// A case "CARD CALLS".
 pub fn answer_pieces(case: &str) -> String {
     let (card, text) = case.split_once(' ').expect("a card and calls");
-    answers(&card_in(card), &calls(text))
+    answers(&bytes_in(card), &calls(text))
 }
 
 /// A number for a text, so that a long one is compared by a short one: each byte is added to 31 times the number of
@@ -92,7 +83,7 @@ pub fn answer_cuts(case: &str) -> String {
     let words: Vec<&str> = case.split(' ').collect();
     let [step, card, recording] = words[..] else { panic!("a step, a card and a recording") };
     let (step, recording) = (unhex(step)[0] as usize, unhex(recording));
-    let started = match Receiver::start(&card_in(card)) {
+    let started = match Receiver::start(&bytes_in(card)) {
         Ok(receiver) => receiver,
         Err(number) => return format!("refused {number}\n"),
     };
@@ -160,7 +151,7 @@ pub fn cover(batch: &str) -> Vec<(&'static str, u64)> {
     for case in batch.lines().filter_map(|line| line.strip_prefix("pieces ")) {
         let (card, text) = case.split_once(' ').expect("a card and calls");
         let mut met = Vec::new();
-        meet(&card_in(card), &calls(text), &mut met);
+        meet(&bytes_in(card), &calls(text), &mut met);
         for row in met {
             *counts.entry(row).or_insert(0) += 1;
         }

@@ -44,6 +44,14 @@ pub fn recorded(train: u8, samples: &[Sample]) -> Vec<u8> {
     bytes
 }
 
+/// The card (highest 2), then "a ride 14, 7": its session and its samples, or the refusal.
+pub fn open(card: &[u8], bytes: &[u8]) -> Result<(Session, Vec<Sample>), u8> {
+    let settings = card::read(2, card).map_err(|refusal| refusal.number)?;
+    let recording = recording(bytes)?;
+    let session = Session::open(settings, recording.train).map_err(|refusal| refusal.number)?;
+    Ok((session, recording.samples))
+}
+
 /// The card (highest 2), then "a ride 14, 7, its samples". Calls back with each accepted sample's session and answer;
 /// gives the refusal that ended the ride, if any.
 pub fn ride(card: &[u8], bytes: &[u8], mut each: impl FnMut(&Session, Answer)) -> Option<u8> {
@@ -56,19 +64,11 @@ pub fn ride(card: &[u8], bytes: &[u8], mut each: impl FnMut(&Session, Answer)) -
 
 /// The same, called back with the session behind each sample, the sample, and its answer or refusal.
 fn each_sample(card: &[u8], bytes: &[u8], mut each: impl FnMut(&Session, Sample, Result<Answer, u8>)) -> Option<u8> {
-    let settings = match card::read(2, card) {
-        Ok(settings) => settings,
-        Err(refusal) => return Some(refusal.number),
-    };
-    let recording = match recording(bytes) {
-        Ok(recording) => recording,
+    let (mut session, samples) = match open(card, bytes) {
+        Ok(opened) => opened,
         Err(number) => return Some(number),
     };
-    let mut session = match Session::open(settings, recording.train) {
-        Ok(session) => session,
-        Err(refusal) => return Some(refusal.number),
-    };
-    for sample in recording.samples {
+    for sample in samples {
         let result = session.sample(sample);
         each(&session, sample, result);
         if let Err(number) = result {
