@@ -11,7 +11,7 @@ use Rattle.leaf.specs.Choosing.{pick}
 use Rattle.leaf.specs.Bytes.{byte, long}
 use Rattle.card.specs.Card.{reminds, speaks}
 use Rattle.card.specs.Reading.{settingsOf}
-use Rattle.rides.specs.Recording.{goodRecording, firstSamples}
+use Rattle.rides.specs.Recording.{goodRecording, samplesFrom}
 use Rattle.rides.specs.Ride.{startRide}
 use Rattle.text.specs.Decimal.{newline, upperOf, lowerOf, decimal}
 use Rattle.printed.specs.declared.Columns.the-variants.{Paper}
@@ -70,7 +70,7 @@ version-out h =
     omega arith
 
 functions-out : FunctionsPrint functionsAbove → ⊥
-unfolding definitions below firstLines firstSamples
+unfolding definitions below firstLines samplesFrom
 functions-out h =
     let e = h Paper (R 0x0F) quiet-R [] (settingsOf (R 0x0F)) (settingsOf quiet-R) refl refl (hypotheses-met .same-R) in
     let z : _≡_ {A = ℕ} 0x0F 0x0B = ap (below 0) e in

@@ -9,7 +9,7 @@ use Rattle.leaf.specs.Answers.{Answer, given, refused}
 use Rattle.card.specs.CardA.{cardA}
 use Rattle.step.specs.declared.Answer.{Answer as Told}
 use Rattle.session.specs.Session.{answerTo}
-use Rattle.rides.specs.Recording.{goodRecording, firstSamples}
+use Rattle.rides.specs.Recording.{goodRecording, samplesFrom}
 use Rattle.rides.specs.Ride.{startRide, toldOf, turnOf, turnShows, shownBy, wholeRide}
 use Rattle.demands.specs.Lazy.{Rider, Starts, goesOn, wipes, RidesExactly, RidesOut}
 use Rattle.demands.proofs.Computes.{definitions}
@@ -49,7 +49,7 @@ record Rides : Type 0 where
   wiping : wipes cardA ride-13 ≡ given (refused 9 ∷ [])
 
 rides : Rides
-unfolding definitions wholeRide startRide goodRecording long shownBy turnShows turnOf toldOf answerTo firstSamples
+unfolding definitions wholeRide startRide goodRecording long shownBy turnShows turnOf toldOf answerTo samplesFrom
 rides = record { ours = refl; going = refl; wiping = refl }
 
 as-ours : (ride : Rider) → RidesExactly ride → ride cardA ride-13 ≡ given (at100 ∷ refused 9 ∷ [])

@@ -22,6 +22,10 @@ pub mod LineExamples
 pub mod Pieces
 pub mod Standing
 pub mod Quiet
+pub mod InTurn
+pub mod Replayed
+pub mod ReplayLists
+pub mod Replay
 pub mod ShutOut
 pub mod Starred
 pub mod LazyLogics

@@ -21,7 +21,7 @@ use Rattle.session.specs.declared.Outcome.the-variants as outcome
 use Rattle.session.specs.Session.{openSession, insideOf, refusedBy, sampleOf, outcomeOf}
 use Rattle.session.specs.Runs.{accepted, after, outcomes, allAccepted}
 use Rattle.session.proofs.Runs as session
-use Rattle.rides.specs.Recording.{trainOf, placeOf, sampleAt, firstSamples}
+use Rattle.rides.specs.Recording.{trainOf, placeOf, sampleAt, samplesFrom, firstSamples}
 use Rattle.rides.specs.Ride.{freshRide, toldOf, turnOf, turnShows, runOf, shownBy}
 use Rattle.rides.specs.declared.ride.Ride.{Ride}
 use Rattle.rides.proofs.Recordings.{six, next-six}
@@ -125,14 +125,10 @@ shown-next : (r : Ride) (xs : List Sample) (x : Sample) → shownBy r (xs ++ x �
 unfolding shownBy
 shown-next r xs x = rides.shown-append r xs (x ∷ []) ∙ rw append-nil
 
-more : (bytes : List ℕ) (k : ℕ) → firstSamples bytes (suc k) ≡ firstSamples bytes k ++ sampleAt bytes k ∷ []
-unfolding firstSamples
-more bytes k = refl
-
 pub samples-length : (bytes : List ℕ) (k : ℕ) → length (firstSamples bytes k) ≡ k
-unfolding firstSamples
+unfolding samplesFrom
 samples-length bytes zero = refl
-samples-length bytes (suc k) = omega (arith, samples-length bytes k, length-append (firstSamples bytes k) (sampleAt bytes k ∷ []))
+samples-length bytes (suc k) = omega (arith, samples-length bytes k, length-append (firstSamples bytes k) (sampleAt bytes (0 + k) ∷ []))
 
 -- a receiver and a ride that stand at the same place, the receiver having taken so many bytes of those stated
 pub record Stands (r : Receiver) (ride : Ride) (stated taken : ℕ) : Type 0 where
@@ -193,7 +189,7 @@ module _ (settings : Settings) (bytes : List ℕ) (s : Session) (head : Opened s
     pub shown : shownBytes settings (take (placeOf k) bytes) ≡ shownBy (freshRide s) (firstSamples bytes k)
 
   after-head : After 0
-  unfolding firstSamples runOf shownBy
+  unfolding samplesFrom runOf shownBy
   after-head =
       let after = ap (λ (z : Receiver × List (Answer Told)). z .0) opened-head in
       record {
@@ -216,8 +212,8 @@ module _ (settings : Settings) (bytes : List ℕ) (s : Session) (head : Opened s
       let x = sampleAt bytes k in
       let next = later r (rideAt k) (long bytes 0) bytes k (before .place) p in
       record {
-        place = rw (one-more k h, sum, received-append, more bytes k, run-next (freshRide s) (firstSamples bytes k) x) (next .0);
-        shown = rw (one-more k h, shown-append, more bytes k, shown-next (freshRide s) (firstSamples bytes k) x, next .1, before .shown);
+        place = rw (one-more k h, sum, received-append, rides.first-suc bytes k, run-next (freshRide s) (firstSamples bytes k) x) (next .0);
+        shown = rw (one-more k h, shown-append, rides.first-suc bytes k, shown-next (freshRide s) (firstSamples bytes k) x, next .1, before .shown);
       }
 
   pub stands : (k : ℕ) → placeOf k ≤ length bytes → placeOf k ≤ long bytes 0 → After k

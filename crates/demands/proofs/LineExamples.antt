@@ -10,7 +10,7 @@ use Rattle.card.specs.CardA.{cardA}
 use Rattle.session.specs.declared.Session.{Session}
 use Rattle.session.specs.Session.{freshSession, openSession, outcomeOf}
 use Rattle.session.specs.Runs.{outcomes}
-use Rattle.rides.specs.Recording.{trainOf, firstSamples}
+use Rattle.rides.specs.Recording.{trainOf, samplesFrom, firstSamples}
 use Rattle.rides.specs.Ride.{toldOf, turnOf}
 use Rattle.receiver.specs.Receiver.{refusedWith, headFits, statedWith, openedWith, headTakes, partFits, partWith, completedBy, sampleTakes, openTakes, takeAs, takeOf, endAs, endOf, receivedAll, shownAll, receivedPieces, shownPieces}
 use Rattle.receiver.specs.declared.Status.the-variants.{Refused}
@@ -41,7 +41,7 @@ pub record Computed : Type 0 where
   pub waits-on : waits .shown cardA (one [] ++ unfit) ≡ []
 
 pub computed : Computed
-unfolding definitions byte long firstSamples openSession toldOf turnOf refusedWith headFits statedWith openedWith headTakes partFits partWith completedBy sampleTakes openTakes takeAs takeOf receivedAll shownAll
+unfolding definitions byte long samplesFrom openSession toldOf turnOf refusedWith headFits statedWith openedWith headTakes partFits partWith completedBy sampleTakes openTakes takeAs takeOf receivedAll shownAll
 computed =
     record {
       opened = freshSession cardA 6;

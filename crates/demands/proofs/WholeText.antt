@@ -16,7 +16,7 @@ use Rattle.step.specs.declared.Answer.{Answer as Told}
 use Rattle.session.specs.declared.Session.{Session}
 use Rattle.session.specs.Session.{openSession}
 use Rattle.text.specs.Decimal.{line}
-use Rattle.rides.specs.Recording.{goodRecording, samplesIn, trainOf, placeOf, sampleAt, firstSamples}
+use Rattle.rides.specs.Recording.{goodRecording, samplesIn, trainOf, placeOf, sampleAt, samplesFrom, firstSamples}
 use Rattle.rides.specs.Ride.{freshRide, shownOf, turnOf, turnAt, runOf, shownBy}
 use Rattle.rides.specs.declared.ride.Ride.{Ride}
 use Rattle.rides.specs.declared.ride.Shown.{Shown}
@@ -118,7 +118,7 @@ module _ (columns : Columns) where
 
     -- the head prints nothing
     head-text : After settings recording s head 0 → Text 0
-    unfolding linesOf shownBy firstSamples
+    unfolding linesOf shownBy samplesFrom
     head-text after =
         let six-bytes : length (take 6 recording) ≡ 6 = length-take-le 6 recording (head .enough) in
         part-text columns (freshReceiver settings) (take 6 recording) (omega arith) ∙ rw (after .shown)
@@ -128,7 +128,7 @@ module _ (columns : Columns) where
     next-text k h p after before =
         let r = afterBytes settings (take (placeOf k) recording) in
         let here = sample-text r (runOf (freshRide s) (firstSamples recording k)) (long recording 0) recording k (after .place) p in
-        rw (one-more settings recording s head k h, recording-run (freshRide s) recording k)
+        rw (one-more settings recording s head k h, recording-run (freshRide s) recording 0 k)
         (piece-append columns (freshReceiver settings) (take (placeOf k) recording) (six recording k) ∙ rw (before, here))
 
     texts : (k : ℕ) → placeOf k ≤ length recording → placeOf k ≤ long recording 0 → Text k

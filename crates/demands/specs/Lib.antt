@@ -7,6 +7,7 @@ pub mod Demand3
 pub mod Pieces
 pub mod Standing
 pub mod Quiet
+pub mod Replay
 pub mod ShutOut
 pub mod Starred
 pub mod Lazy

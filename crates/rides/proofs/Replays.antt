@@ -43,23 +43,20 @@ pub fresh-of : (q : Ride) → eqb (q .ended) 0 ≡ true → q ≡ freshRide (q .
 fresh-of q e = let z : q .ended ≡ 0 = eqb-true _ _ e in ap (λ (n : ℕ). record { session = q .session; ended = n }) z
 
 -- where the ride goes on behind a sample, that was a step; where it ends, the number is shown
-pub record Turning (q : Ride) (x : Sample) : Type 0 where
-  pub steps : eqb (turnOf q x .ride .ended) 0 ≡ true → stepOf (turnOf q x .shown) ≡ 1
-  pub ends : eqb (turnOf q x .ride .ended) 0 ≡ false → turnOf q x .shown ≡ Refused (turnOf q x .ride .ended)
+pub record Turning (t : Turned) : Type 0 where
+  pub steps : eqb (t .ride .ended) 0 ≡ true → stepOf (t .shown) ≡ 1
+  pub ends : eqb (t .ride .ended) 0 ≡ false → t .shown ≡ Refused (t .ride .ended)
 
-turning-fresh : (s : Session) (x : Sample) → Turning (freshRide s) x
+turning-fresh : (s : Session) (x : Sample) → Turning (turnOf (freshRide s) x)
 turning-fresh s x = cases (accepted s x) refl
   where
-    cases : (t : Bool) → accepted s x ≡ t → Turning (freshRide s) x
-    cases true e =
-        let t = turned-accepted s x e in
-        record { steps = λ h. rw t; ends = λ h. let z : true ≡ false = rw t at h in cc }
-    cases false e =
-        let t = turned-refused s x e in
-        record { steps = λ h. let z : false ≡ true = rw (t, e) at h in cc; ends = λ h. rw t }
+    cases : (t : Bool) → accepted s x ≡ t → Turning (turnOf (freshRide s) x)
+    cases true e = rw (turned-accepted s x e) (record { steps = λ h. refl; ends = λ h. cc })
+    cases false e = rw (turned-refused s x e) (record { steps = λ h. let z : false ≡ true = sym e ∙ h in cc; ends = λ h. refl })
 
-pub turning : (q : Ride) (x : Sample) → eqb (q .ended) 0 ≡ true → Turning q x
-turning q x e = rw (fresh-of q e) (turning-fresh (q .session) x)
+pub turning : (q : Ride) (recording : List ℕ) (k : ℕ) → eqb (q .ended) 0 ≡ true → Turning (turnAt q recording k)
+unfolding turnAt
+turning q recording k e = rw (fresh-of q e) (turning-fresh (q .session) (sampleAt recording k))
 
 -- ---- behind the sample that ends it
 
@@ -89,9 +86,9 @@ module _ (r : Ride) (recording : List ℕ) (place : ℕ) where
   pub stops : (k j : ℕ) → eqb (rideFrom r recording place k .ended) 0 ≡ true → eqb (turnAt (rideFrom r recording place k) recording (place + k) .ride .ended) 0 ≡ false
       → (rideFrom r recording place (suc k + j) ≡ turnAt (rideFrom r recording place k) recording (place + k) .ride)
       × (stepsFrom r recording place (suc k + j) ≡ stepsFrom r recording place k) × (lastFrom r recording place (suc k + j) ≡ lastFrom r recording place k)
-  unfolding rideFrom stepsFrom lastFrom turnAt
+  unfolding rideFrom stepsFrom lastFrom
   stops k j going over =
-      let sh = turning (rideFrom r recording place k) _ going .ends over in
+      let sh = turning (rideFrom r recording place k) recording (place + k) going .ends over in
       let rest = ended-counts (suc k) j over in (
         ended-stays r recording place (suc k) j over,
         rest .0 ∙ rw (sh, add-zero),
@@ -110,8 +107,7 @@ pub record Reached (r : Ride) (recording : List ℕ) (place k : ℕ) (going : Ri
 module _ (r : Ride) (recording : List ℕ) (place k : ℕ) (going : Ride) (last : Last) (at : Reached r recording place k going last) (t : Turned)
     (turned : t ≡ turnAt going recording (place + k)) where
   step-here : eqb (t .ride .ended) 0 ≡ true → stepOf (t .shown) ≡ 1
-  unfolding turnAt
-  step-here goes = rw turned (turning going (sampleAt recording (place + k)) (at .goes) .steps (rw turned at goes))
+  step-here goes = rw turned (turning going recording (place + k) (at .goes) .steps (rw turned at goes))
 
   shown-here : shownNext r recording place k ≡ t .shown
   shown-here = let e : turnAt (rideFrom r recording place k) recording (place + k) ≡ t = rw (← at .ride, ← turned) in ap (λ (x : Turned). x .shown) e
