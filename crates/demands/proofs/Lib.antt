@@ -35,3 +35,4 @@ pub mod LazyLines
 pub mod LazyPrints
 pub mod LazyCounts
 pub mod LazyCauses
+pub mod LazyReplays

@@ -1,5 +1,5 @@
 -- Lazy programs, by name. Of each: a statement that reads much like ours and lets it pass, and that ours does not.
-use Prim.Native.Nat.{ℕ, _+_, _*_, min, _≤_, _<_}
+use Prim.Native.Nat.{ℕ, _+_, _*_, _-_, min, _≤_, _<_}
 use mathlib.Core.Bool.{Bool, true, _&&_, not}
 use mathlib.Core.List.{List, [], _∷_, _++_, map}
 use mathlib.Core.Path.{_≡_}
@@ -25,6 +25,9 @@ use Rattle.session.specs.Session.{openSession, carried, stepped, sampleOf, outc
 use Rattle.session.specs.Runs.{outcomes, allAccepted}
 use Rattle.rides.specs.Recording.{goodRecording, RecordingMet, samplesIn, trainOf, placeOf, firstSamples, samplesOf}
 use Rattle.rides.specs.Ride.{freshRide, startRide, shownOf, shownBy, wholeRide}
+use Rattle.rides.specs.Replay.{dueFrom, replayOf}
+use Rattle.rides.specs.declared.replay.Last.the-variants as last
+use Rattle.rides.specs.declared.replay.End.the-variants as end
 use Rattle.receiver.specs.Receiver.{endOf}
 use Rattle.receiver.specs.declared.Status.the-variants as status
 use Rattle.text.specs.Decimal.{newline}
@@ -36,6 +39,7 @@ use Rattle.demands.specs.Pieces.{afterBytes, shownBytes, Going, AllBytes
 use Rattle.demands.specs.ShutOut.{Logic, document01, Equals, OneSpeed, Repeats}
 use Rattle.demands.specs.Standing.{StoodFor, Counter, Counts}
 use Rattle.demands.specs.Quiet.{steppedBefore, Arisen, Raiser, Raises}
+use Rattle.demands.specs.Replay.{Replayer, ReplayedAs, ReplaysExactly, TwoQuotas, WholeRide}
 
 -- ---- logics
 
@@ -275,6 +279,33 @@ atChange s x = pick (eqb (x .beacon) (s .desk .code)) (steppedBefore s x .arose)
 pub record CausesOut : Type 0 where
   pub change-passes : RaisesAtChange atChange
   pub change-out : Raises atChange → ⊥
+
+-- ---- replays, 02 d
+
+-- one that runs nothing and refuses nothing: any two of its quotas give what one of their sum gives
+abbrev pub idles : Replayer
+idles recording place s quota = record { session = s; last = last.None; ran = 0; end = end.Unrefused }
+
+-- one that starts at place 0, whatever the place: a whole quota from there is the ride
+abbrev pub fromStart : Replayer
+fromStart recording place s quota = replayOf recording 0 s quota
+
+-- one that asks after the session only where a sample is due
+abbrev pub looksLate : Replayer
+looksLate recording place s quota = pick (eqb (dueFrom recording place quota) 0 && goodRecording recording) (idles recording place s quota) (replayOf recording place s quota)
+
+-- a statement of replays in which a sample is due
+abbrev pub ReplaysDue : Replayer → Type 0
+ReplaysDue replay = (recording : List ℕ) (n place : ℕ) (s : Session) (quota : ℕ) → RecordingMet recording n → 1 ≤ min quota (n - place)
+    → Exactly (replay recording place s quota) (ReplayedAs recording place s quota)
+
+pub record ReplaysOut : Type 0 where
+  pub idles-passes : TwoQuotas idles
+  pub idles-out : ReplaysExactly idles → ⊥
+  pub start-passes : WholeRide fromStart
+  pub start-out : ReplaysExactly fromStart → ⊥
+  pub late-passes : ReplaysDue looksLate
+  pub late-out : ReplaysExactly looksLate → ⊥
 
 -- ---- printers
 
