@@ -2,6 +2,8 @@
 use Prim.Native.Nat.{ℕ, zero, suc, _+_, _≤_, _<_}
 use native.Mathlib.Omega.{arith}
 use native.Mathlib.Numerals.{add-one}
+use native.Mathlib.Nat.{add-zero}
+use borrow.Author.Tests.{ne-eqb}
 use mathlib.Core.Bool.{Bool, true, false}
 use mathlib.Core.List.{List}
 use mathlib.Core.Logic.{_⊎_, inl, inr}
@@ -16,15 +18,15 @@ use Rattle.session.specs.Session.{refusedBy, ranOf, insideOf, sampleOf}
 use Rattle.session.specs.Runs.{accepted}
 use Rattle.session.proofs.Runs.{accepted-runs, refused-stays}
 use Rattle.rides.specs.Recording.{sampleAt}
-use Rattle.rides.specs.Ride.{freshRide, toldOf, turnOf, turnAt, rideFrom}
-use Rattle.rides.specs.Replay.{stepsFrom, lastFrom, ranFrom}
+use Rattle.rides.specs.Ride.{freshRide, toldOf, turnOf, turnAt}
+use Rattle.rides.specs.Replay.{ranFrom}
+use Rattle.rides.specs.declared.ride.Ride.{Ride}
 use Rattle.rides.specs.declared.ride.Shown.the-variants as shown
 use Rattle.rides.specs.declared.ride.Turned.{Turned}
 use Rattle.rides.specs.declared.replay.Last.{Last}
 use Rattle.rides.specs.declared.replay.Last.the-variants as last
 use Rattle.rides.specs.declared.replay.End.the-variants as end
-use Rattle.rides.specs.declared.replay.Replayed.{Replayed}
-use Rattle.rides.proofs.Replays.{Reached, one-more, ends-here, ran-ended, ran-all}
+use Rattle.rides.proofs.Replays.{At, none-at, next-at, so-far-is, ended-all}
 use Rattle.laws.specs.Ranges.{Inside}
 use Rattle.laws.proofs.Ranges.{session-ranges}
 use Rattle.laws.proofs.Inside.{inside-laws}
@@ -61,16 +63,16 @@ own s x m q inside = let n = numbers s x (refusalBy m s) q m refl in (n .2 insid
 -- ---- what a replay has run then
 
 module _ (recording : List ℕ) (place : ℕ) (s : Session) where
-  reached : (k : ℕ) (u : Session) (l : Last) → InTurn recording place s k u l → Reached (freshRide s) recording place k (freshRide u) l
-  unfolding rideFrom lastFrom stepsFrom turnAt
-  reached k u l replay.InTurn.none = record { ride = refl; answer = refl; steps = refl; goes = refl }
+  reached : (k : ℕ) (u : Session) (l : Last) → InTurn recording place s k u l → At (freshRide s) recording place k (freshRide u) l k
+  unfolding turnAt
+  reached k u l replay.InTurn.none = none-at (freshRide s) recording place
   reached k u l (replay.InTurn.one-more {k = j} {before = b} {behind = v} {l = before} {a = a} t q) =
       rw add-one at
-      (one-more (freshRide s) recording place j (freshRide b) before (reached j b before t) (record { ride = freshRide v; shown = shown.Answered a }) (turned-answered b (sampleAt recording (place + j)) v a q) refl)
+      (next-at (freshRide s) recording place j (freshRide b) before j (reached j b before t) (record { ride = freshRide v; shown = shown.Answered a }) (turned-answered b (sampleAt recording (place + j)) v a q))
 
   pub ran-in-turn : (k : ℕ) (u : Session) (l : Last) → InTurn recording place s k u l
       → ranFrom s recording place k ≡ record { session = u; last = l; ran = k; end = end.Unrefused }
-  ran-in-turn k u l t = sym (ran-all s recording place k (freshRide u) l (reached k u l t))
+  ran-in-turn k u l t = sym (so-far-is s recording place k (freshRide u) l k (reached k u l t))
 
   pub ran-stopped : (n k m : ℕ) (u : Session) (l : Last) → k < n → InTurn recording place s k u l → SampledAs u (sampleAt recording (place + k)) (refusalBy m u)
       → ranFrom s recording place n ≡ record { session = u; last = l; ran = k; end = end.RefusedAt m (place + k) }
@@ -80,8 +82,10 @@ module _ (recording : List ℕ) (place : ℕ) (s : Session) where
       let some = numbers u x (refusalBy m u) q m refl .0 in
       let over : m ≡ 0 → ⊥ = λ z. omega arith in
       let turn : Turned = record { ride = record { session = u; ended = m }; shown = shown.Refused m } in
-      let e = ends-here (freshRide s) recording place k (freshRide u) l (reached k u l t) turn (turned-refused u x m q) n h over in
-      sym (ran-ended s recording place n k (record { session = u; ended = m }) l (e .0) (e .1) (e .2) over)
+      let next = next-at (freshRide s) recording place k (freshRide u) l k (reached k u l t) turn (turned-refused u x m q) in
+      sym (ended-all s recording place (k + 1) n (omega arith) (λ z. over (ap (λ (r : Ride). r .ended) (next .ride) ∙ z)))
+      ∙ sym (so-far-is s recording place (k + 1) (turn .ride) l (k + 0) next)
+      ∙ rw (add-zero, ne-eqb m 0 over)
 
   -- every number of samples is accepted in turn, or one before it is refused
   pub record Stops (n : ℕ) : Type 0 where

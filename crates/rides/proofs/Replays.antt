@@ -7,7 +7,7 @@ use mathlib.Core.Path.{_≡_, refl, sym, ap, _∙_}
 use mathlib.Core.Bool.{Bool, true, false}
 use mathlib.Core.List.{List}
 use lib.Dec.{eqb, leb}
-use borrow.Author.Tests.{eqb-true, eq-eqb, ne-eqb, leb-true, leb-false}
+use borrow.Author.Tests.{eqb-true, ne-eqb, leb-true, leb-false}
 use Rattle.leaf.specs.Checks.{none-bad}
 use Rattle.session.specs.declared.Sample.{Sample}
 use Rattle.session.specs.declared.Session.{Session}
@@ -15,14 +15,13 @@ use Rattle.session.specs.Session.{refusedBy, carried, stepped, ranOf, sampleOf}
 use Rattle.session.specs.Runs.{accepted}
 use Rattle.rides.specs.Recording.{sampleAt, samplesIn, mostSamples}
 use Rattle.rides.specs.Ride.{freshRide, toldOf, turnOf, turnAt, rideFrom}
-use Rattle.rides.specs.Replay.{dueFrom, shownNext, stepOf, stepsFrom, laterOf, lastFrom, ranFrom, replayChecks, unrunBy, replayOf}
+use Rattle.rides.specs.Replay.{dueFrom, shownNext, stepOf, stepsFrom, laterOf, lastFrom, soFar, ranFrom, replayChecks, unrunBy, replayOf}
 use Rattle.rides.specs.declared.ride.Ride.{Ride}
 use Rattle.rides.specs.declared.ride.Shown.{Shown}
 use Rattle.rides.specs.declared.ride.Shown.the-variants.{Answered, Refused, Nothing}
 use Rattle.rides.specs.declared.ride.Turned.{Turned}
 use Rattle.rides.specs.declared.replay.Last.{Last}
-use Rattle.rides.specs.declared.replay.End.the-variants as end
-use Rattle.rides.specs.declared.replay.Replayed.{Replayed}
+use Rattle.rides.specs.declared.replay.Last.the-variants.{None}
 use Rattle.rides.proofs.Recordings.{good-met}
 use Rattle.rides.proofs.Runs.{from-suc, ended-shows, ended-stays}
 
@@ -82,64 +81,54 @@ module _ (r : Ride) (recording : List ℕ) (place : ℕ) where
       let none = later-nothing (k + j) over in
       (rw (add-suc k j, steps-suc (k + j), none, before .0, add-zero), rw (add-suc k j, last-suc (k + j), none, before .1))
 
-  -- the refused sample itself is no step, and brings no answer
-  pub stops : (k j : ℕ) → eqb (rideFrom r recording place k .ended) 0 ≡ true → eqb (turnAt (rideFrom r recording place k) recording (place + k) .ride .ended) 0 ≡ false
-      → (rideFrom r recording place (suc k + j) ≡ turnAt (rideFrom r recording place k) recording (place + k) .ride)
-      × (stepsFrom r recording place (suc k + j) ≡ stepsFrom r recording place k) × (lastFrom r recording place (suc k + j) ≡ lastFrom r recording place k)
-  unfolding rideFrom stepsFrom lastFrom
-  stops k j going over =
-      let sh = turning (rideFrom r recording place k) recording (place + k) going .ends over in
-      let rest = ended-counts (suc k) j over in (
-        ended-stays r recording place (suc k) j over,
-        rest .0 ∙ rw (sh, add-zero),
-        rest .1 ∙ rw sh,
-      )
+-- ---- as the loop goes
 
--- ---- one sample after the other, as the loop goes
+-- there are no more steps than samples
+pub step-low : (sh : Shown) → stepOf sh ≤ 1
+step-low (Answered a) = omega arith
+step-low (Refused n) = omega arith
+step-low Nothing = omega arith
 
--- after k samples from the place on, of which none was refused
-pub record Reached (r : Ride) (recording : List ℕ) (place k : ℕ) (going : Ride) (last : Last) : Type 0 where
+pub steps-low : (r : Ride) (recording : List ℕ) (place k : ℕ) → stepsFrom r recording place k ≤ k
+unfolding stepsFrom
+steps-low r recording place zero = omega arith
+steps-low r recording place (suc k) = omega (arith, steps-low r recording place k, step-low (shownNext r recording place k))
+
+-- a ride that stands behind k samples from the place on, its last answer and how many of them were steps
+pub record At (r : Ride) (recording : List ℕ) (place k : ℕ) (going : Ride) (last : Last) (ran : ℕ) : Type 0 where
   pub ride : going ≡ rideFrom r recording place k
   pub answer : last ≡ lastFrom r recording place k
-  pub steps : stepsFrom r recording place k ≡ k
-  pub goes : eqb (going .ended) 0 ≡ true
+  pub steps : ran ≡ stepsFrom r recording place k
 
-module _ (r : Ride) (recording : List ℕ) (place k : ℕ) (going : Ride) (last : Last) (at : Reached r recording place k going last) (t : Turned)
-    (turned : t ≡ turnAt going recording (place + k)) where
-  step-here : eqb (t .ride .ended) 0 ≡ true → stepOf (t .shown) ≡ 1
-  step-here goes = rw turned (turning going recording (place + k) (at .goes) .steps (rw turned at goes))
+pub none-at : (r : Ride) (recording : List ℕ) (place : ℕ) → At r recording place 0 r None 0
+unfolding rideFrom lastFrom stepsFrom
+none-at r recording place = record { ride = refl; answer = refl; steps = refl }
 
-  shown-here : shownNext r recording place k ≡ t .shown
-  shown-here = let e : turnAt (rideFrom r recording place k) recording (place + k) ≡ t = rw (← at .ride, ← turned) in ap (λ (x : Turned). x .shown) e
+pub next-at : (r : Ride) (recording : List ℕ) (place k : ℕ) (going : Ride) (last : Last) (ran : ℕ) → At r recording place k going last ran
+    → (t : Turned) → t ≡ turnAt going recording (place + k) → At r recording place (k + 1) (t .ride) (laterOf last (t .shown)) (ran + stepOf (t .shown))
+next-at r recording place k going last ran at t turned =
+    let e : turnAt (rideFrom r recording place k) recording (place + k) ≡ t = rw (← at .ride, ← turned) in
+    let here : shownNext r recording place k ≡ t .shown = ap (λ (x : Turned). x .shown) e in
+    record {
+      ride = rw (add-one, from-suc, e);
+      answer = rw (add-one, last-suc, ← at .answer, here);
+      steps = rw (add-one, steps-suc, ← at .steps, here);
+    }
 
-  pub one-more : t .ride .ended ≡ 0 → Reached r recording place (k + 1) (t .ride) (laterOf last (t .shown))
-  one-more e =
-      let goes = eq-eqb _ _ e in
-      record {
-        ride = rw (add-one, from-suc, ← at .ride, ← turned);
-        answer = rw (add-one, last-suc, ← at .answer, shown-here);
-        steps = rw (add-one, steps-suc, at .steps, shown-here, step-here goes) (add-one k);
-        goes = goes;
-      }
-
-  pub ends-here : (n : ℕ) → k < n → (t .ride .ended ≡ 0 → ⊥)
-      → (t .ride ≡ rideFrom r recording place n) × (last ≡ lastFrom r recording place n) × (k ≡ stepsFrom r recording place n)
-  ends-here n h over =
-      let e : n ≡ suc k + (n - suc k) = omega arith in
-      let stopped = stops r recording place k (n - suc k) (rw (← at .ride) (at .goes)) (rw (← at .ride, ← turned) (ne-eqb _ _ over)) in
-      (rw (e, stopped .0, ← at .ride) (ap (λ (x : Turned). x .ride) turned), rw (e, stopped .2) (at .answer), rw (e, stopped .1, at .steps))
-
--- what is returned then
-pub ran-ended : (s : Session) (recording : List ℕ) (place n k : ℕ) (q : Ride) (last : Last) → q ≡ rideFrom (freshRide s) recording place n
-    → last ≡ lastFrom (freshRide s) recording place n → k ≡ stepsFrom (freshRide s) recording place n → (q .ended ≡ 0 → ⊥)
-    → record { session = q .session; last = last; ran = k; end = end.RefusedAt (q .ended) (place + k) } ≡ ranFrom s recording place n
+pub so-far-is : (s : Session) (recording : List ℕ) (place k : ℕ) (going : Ride) (last : Last) (ran : ℕ) → At (freshRide s) recording place k going last ran
+    → soFar going last place ran ≡ ranFrom s recording place k
 unfolding ranFrom
-ran-ended s recording place n k q last a b c over = rw (← a, ← b, ← c, ne-eqb _ _ over)
+so-far-is s recording place k going last ran at = rw (← at .ride, ← at .answer, ← at .steps)
 
-pub ran-all : (s : Session) (recording : List ℕ) (place k : ℕ) (q : Ride) (last : Last) → Reached (freshRide s) recording place k q last
-    → record { session = q .session; last = last; ran = k; end = end.Unrefused } ≡ ranFrom s recording place k
+-- behind the sample that ends it, all stays as it is
+pub ended-all : (s : Session) (recording : List ℕ) (place k n : ℕ) → k ≤ n → (rideFrom (freshRide s) recording place k .ended ≡ 0 → ⊥)
+    → ranFrom s recording place k ≡ ranFrom s recording place n
 unfolding ranFrom
-ran-all s recording place k q last at = rw (← at .ride, ← at .answer, at .steps, at .goes)
+ended-all s recording place k n h over =
+    let e : n ≡ k + (n - k) = omega arith in
+    let shut = ne-eqb _ _ over in
+    let counts = ended-counts (freshRide s) recording place k (n - k) shut in
+    rw (e, ended-stays (freshRide s) recording place k (n - k) shut, counts .0, counts .1)
 
 -- ---- how far: a place behind the end, like the end itself, leaves none
 

@@ -60,15 +60,14 @@ lastFrom r recording place (suc k) = laterOf (lastFrom r recording place k) (sho
 abbrev pub endAt : ℕ → ℕ → End
 endAt ended position = pick (eqb ended 0) end.Unrefused (end.RefusedAt ended position)
 
+-- what a ride has come to, of which so many samples ran from a place on
+abbrev pub soFar : Ride → Last → ℕ → ℕ → Replayed
+soFar r l place ran = record { session = r .session; last = l; ran = ran; end = endAt (r .ended) (place + ran) }
+
 -- after k samples from the place on
 unfoldable pub ranFrom : Session → List ℕ → ℕ → ℕ → Replayed
 ranFrom s recording place k =
-    record {
-      session = rideFrom (freshRide s) recording place k .session;
-      last = lastFrom (freshRide s) recording place k;
-      ran = stepsFrom (freshRide s) recording place k;
-      end = endAt (rideFrom (freshRide s) recording place k .ended) (place + stepsFrom (freshRide s) recording place k);
-    }
+    soFar (rideFrom (freshRide s) recording place k) (lastFrom (freshRide s) recording place k) place (stepsFrom (freshRide s) recording place k)
 
 -- ---- a replay: "Refusals: 14, 8 even if none runs, then the sample's own, with its position and what ran before."
 

@@ -8,7 +8,7 @@ use session::Session;
 use step::Answer;
 ghost use mathlib.Core.Path.{_≡_};
 ghost use Prim.Native.Nat.{_+_, _≤_, min};
-ghost use Rattle.rides.specs.Replay.{laterOf, endAt, ranFrom, unrunOf, unrunBy, replayOf};
+ghost use Rattle.rides.specs.Replay.{stepOf, laterOf, endAt, soFar, ranFrom, unrunOf, unrunBy, replayOf};
 
 // The last answer, where a sample ran.
 pub enum Last {
@@ -36,6 +36,17 @@ fn at_most(x: u64, top: u16) -> u16
     ensures { λ r. ⌜ r ≡ min x top ⌝ }
 {
     if x < top as u64 { x as u16 } else { top }
+}
+
+// A sample that is answered is one step.
+fn step_of(shown: Shown) -> u16
+    ensures { λ r. ⌜ r ≡ stepOf shown ⌝ }
+{
+    match shown {
+        Shown::Answered(_) => 1,
+        Shown::Refused(_) => 0,
+        Shown::Nothing => 0,
+    }
 }
 
 // The answer that was last, and what is shown behind it.
@@ -68,7 +79,32 @@ fn unrun(number: u8, session: Session) -> Replayed
     }
 }
 
-// n samples from a place on, or those before the first of them that is refused.
+// Unrefused, or the number that ended the ride at this position.
+fn end_at(ended: u8, position: u16) -> End
+    ensures { λ r. ⌜ r ≡ endAt ended position ⌝ }
+{
+    let unrefused = ended == 0;
+    if unrefused {
+        return End::Unrefused;
+    }
+    End::RefusedAt(ended, position)
+}
+
+// What a ride has come to, of which so many samples ran from a place on.
+fn so_far(ride: Ride, last: Last, place: u16, ran: u16) -> Replayed
+    requires { ⌜ place + ran ≤ 65535 ⌝ }
+    ensures { λ r. ⌜ r ≡ soFar ride last place ran ⌝ }
+{
+    let session = ride.session;
+    Replayed {
+        session: session,
+        last: last,
+        ran: ran,
+        end: end_at(ride.ended, place + ran),
+    }
+}
+
+// n samples from a place on, up to the first of them that is refused.
 fn run(recording: &[u8], place: u16, session: Session, n: u16) -> Replayed
     requires { ⌜ place + n ≤ 65535 ⌝ }
     ensures { λ r. ⌜ r ≡ ranFrom session (now (recording .entry)) place n ⌝ }
@@ -76,30 +112,19 @@ fn run(recording: &[u8], place: u16, session: Session, n: u16) -> Replayed
     let mut going = Ride::fresh(session);
     let mut last = Last::None;
     let mut ran: u16 = 0;
-    while ran < n {
-        let turned = going.turn_at(recording, place + ran);
-        let shown = turned.shown;
-        let next = turned.ride;
-        if next.ended != 0 {
-            let before = next.session;
-            return Replayed {
-                session: before,
-                last: last,
-                ran: ran,
-                end: End::RefusedAt(next.ended, place + ran),
-            };
+    let mut k: u16 = 0;
+    while k < n {
+        if going.ended != 0 {
+            return so_far(going, last, place, ran);
         }
-        going = next;
+        let turned = going.turn_at(recording, place + k);
+        let shown = turned.shown;
         last = later(last, shown);
-        ran += 1;
+        ran += step_of(shown);
+        going = turned.ride;
+        k += 1;
     }
-    let after = going.session;
-    Replayed {
-        session: after,
-        last: last,
-        ran: ran,
-        end: End::Unrefused,
-    }
+    so_far(going, last, place, ran)
 }
 
 // A quota of the recording's samples from a place on, which is the number of samples before it, run from this session: as many as
