@@ -4,7 +4,8 @@
 // All that is printed below the heading and of a card that could be read is one text of `printed::print_ride`. The bytes
 // read and written are the system's, of which no contract speaks.
 ghost use mathlib.Core.Path.{_≡_};
-ghost use lib.ListN.{length};
+ghost use Prim.Native.Nat.{ℕ};
+ghost use lib.ListN.{length, getD};
 ghost use Rattle.io.specs.Counts.{Counts};
 use printed::Columns;
 use printed::print_heading;
@@ -18,10 +19,11 @@ const RECORDING_ROOM: usize = 60007;
 // A heading of 34 bytes, and 10,000 lines of six numbers, none of more than ten digits and what ends it.
 const TEXT_ROOM: usize = 660040;
 
-// Room for the recording, one byte more than the longest has, and for the text. Each ensures its length, which lending needs: a
+// Room for the recording, one byte more than the longest has, all of it 0; and for the text. Each ensures its length, which lending needs: a
 // check that counts the zeros takes seconds.
 pub fn recording_room() -> [u8; RECORDING_ROOM]
     ensures { λ r. ⌜ 60007 ≡ length r ⌝ }
+    ensures { λ r. ⌜ ((i : ℕ) → getD r i 0 ≡ 0) ⌝ }
 {
     [0; RECORDING_ROOM]
 }
