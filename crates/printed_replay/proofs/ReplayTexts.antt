@@ -1,6 +1,6 @@
 -- What the start prints where it is refused; that the place where a quota ends is one that a recording can have; and how large a buffer holds the
 -- lines of a quota.
-use Prim.Native.Nat.{ℕ, zero, suc, _+_, _-_, _≤_, min}
+use Prim.Native.Nat.{ℕ, _+_, _≤_}
 use native.Mathlib.Omega.{arith}
 use mathlib.Core.Path.{_≡_, refl, sym, _∙_}
 use mathlib.Core.Bool.{Bool, true, false}
@@ -10,23 +10,19 @@ use lib.ListN.{length, length-append}
 use borrow.Author.Tests.{eqb-true}
 use Rattle.leaf.specs.Choosing.{pick}
 use Rattle.leaf.specs.Answers.{Answer, given, refused, refusedAt, refusalOf}
-use Rattle.leaf.specs.Checks.{none-bad}
 use Rattle.leaf.specs.declared.Refusal.{Refusal}
 use Rattle.leaf.specs.declared.Refusal.the-variants.{Number, At}
 use Rattle.session.specs.declared.Session.{Session}
 use Rattle.text.specs.Decimal.{ended, blank, line}
 use Rattle.text.proofs.Lengths.{decimal-length}
-use Rattle.rides.specs.Recording.{samplesIn, mostSamples}
 use Rattle.rides.specs.Ride.{freshRide, numberOf}
-use Rattle.rides.specs.Replay.{dueFrom, shownNext, stepOf, stepsFrom, ranFrom, unrunOf, replayChecks, unrunBy, replayOf}
-use Rattle.rides.specs.declared.ride.Ride.{Ride}
-use Rattle.rides.specs.declared.ride.Shown.{Shown}
+use Rattle.rides.specs.Replay.{dueFrom, ranFrom, unrunOf, unrunBy, replayOf}
 use Rattle.rides.specs.declared.ride.Shown.the-variants as shown
 use Rattle.rides.specs.declared.replay.Last.{Last}
 use Rattle.rides.specs.declared.replay.Last.the-variants as last
 use Rattle.rides.specs.declared.replay.End.{End}
 use Rattle.rides.specs.declared.replay.End.the-variants as end
-use Rattle.rides.proofs.Recordings.{good-met}
+use Rattle.rides.proofs.Replays.{steps-low, few-samples}
 use Rattle.printed.specs.Printed.{refusedLine, columnsOf, shownText}
 use Rattle.printed.specs.declared.Columns.the-variants.{Whole}
 use Rattle.printed.proofs.Room.{shown-length}
@@ -45,22 +41,6 @@ begun-refused (At n place) = refl
 
 -- ---- where a quota ends
 
-one-step : (sh : Shown) → stepOf sh ≤ 1
-one-step (shown.Answered a) = lit≤ tt
-one-step (shown.Refused n) = lit≤ tt
-one-step shown.Nothing = lit≤ tt
-
--- no more samples run than are looked at
-pub steps-most : (r : Ride) (recording : List ℕ) (place k : ℕ) → stepsFrom r recording place k ≤ k
-unfolding stepsFrom
-steps-most r recording place zero = lit≤ tt
-steps-most r recording place (suc k) = omega (arith, steps-most r recording place k, one-step (shownNext r recording place k))
-
--- a recording that is not refused has no more samples than a good one
-few : (recording : List ℕ) (s : Session) → unrunBy recording s ≡ 0 → samplesIn recording ≤ mostSamples
-unfolding unrunBy
-few recording s e = good-met recording (none-bad 0 (replayChecks recording s) tt e .1 .0) .few
-
 -- a quota ends no further than at the recording's end, or where it began; both are places of two bytes
 pub place-fits : (recording : List ℕ) (place : ℕ) (s : Session) (quota : ℕ) → place ≤ 65535 → placeAfter recording place s quota ≤ 65535
 unfolding replayOf ranFrom
@@ -68,7 +48,7 @@ place-fits recording place s quota h = cases (eqb (unrunBy recording s) 0) refl
   where
     cases : (t : Bool) → eqb (unrunBy recording s) 0 ≡ t
         → place + pick t (ranFrom s recording place (dueFrom recording place quota)) (unrunOf (unrunBy recording s) s) .ran ≤ 65535
-    cases true e = omega (arith, few recording s (eqb-true _ _ e), steps-most (freshRide s) recording place (dueFrom recording place quota))
+    cases true e = omega (arith, few-samples recording s (eqb-true _ _ e), steps-low (freshRide s) recording place (dueFrom recording place quota))
     cases false e = omega arith
 
 -- ---- how large a buffer holds what is printed

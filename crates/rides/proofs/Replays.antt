@@ -154,12 +154,16 @@ from-place s recording place quota = cases (leb place (samplesIn recording)) ref
         let other : min quota (samplesIn recording - place) ≡ 0 = omega arith in
         rw (one, other) (none-run s recording _ _)
 
--- a recording and a session that are not refused: as many samples run as a good recording can have
+-- a recording that is not refused has no more samples than a good one can have
+pub few-samples : (recording : List ℕ) (s : Session) → unrunBy recording s ≡ 0 → samplesIn recording ≤ mostSamples
+unfolding unrunBy
+few-samples recording s e = good-met recording (none-bad 0 (replayChecks recording s) tt e .1 .0) .few
+
+-- so of its samples, counted up to those, as many run as the definition says
 pub runs-on : (recording : List ℕ) (place : ℕ) (s : Session) (quota n : ℕ) → n ≡ min (samplesIn recording) mostSamples → unrunBy recording s ≡ 0
     → ranFrom s recording (min place n) (min quota (n - min place n)) ≡ replayOf recording place s quota
-unfolding replayOf unrunBy
+unfolding replayOf
 runs-on recording place s quota n all e =
-    let good = none-bad 0 (replayChecks recording s) tt e .1 .0 in
-    let few = good-met recording good .few in
+    let few = few-samples recording s e in
     let same : n ≡ samplesIn recording = omega arith in
     rw (e, same) (from-place s recording place quota)
