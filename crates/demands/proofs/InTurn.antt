@@ -14,7 +14,7 @@ use Rattle.session.specs.declared.Sample.{Sample}
 use Rattle.session.specs.declared.Session.{Session}
 use Rattle.session.specs.declared.Sampled.{Sampled}
 use Rattle.session.specs.declared.Outcome.the-variants.{Answered, Refused}
-use Rattle.session.specs.Session.{refusedBy, ranOf, insideOf, sampleOf}
+use Rattle.session.specs.Session.{refusedBy, ranOf}
 use Rattle.session.specs.Runs.{accepted}
 use Rattle.session.proofs.Runs.{accepted-runs, refused-stays}
 use Rattle.rides.specs.Recording.{sampleAt}

@@ -1,20 +1,18 @@
 -- Lazy replays: what lets each pass, and that ours does not.
-use Prim.Native.Nat.{ℕ, _-_, min, _≤_}
+use Prim.Native.Nat.{ℕ, _-_}
 use native.Mathlib.Omega.{arith}
-use mathlib.Core.Bool.{Bool, true, false}
-use mathlib.Core.List.{List, []}
+use mathlib.Core.Bool.{false}
+use mathlib.Core.List.{List}
 use mathlib.Core.Path.{_≡_, refl, sym, ap, _∙_}
 use lib.Dec.{eqb}
 use borrow.Author.Tests.{ne-eqb}
 use Rattle.leaf.specs.Bytes.{long}
 use Rattle.session.specs.declared.Session.{Session}
-use Rattle.rides.specs.Recording.{goodRecording, RecordingMet, samplesIn}
+use Rattle.rides.specs.Recording.{goodRecording}
 use Rattle.rides.specs.Replay.{dueFrom, replayOf}
-use Rattle.rides.specs.declared.replay.End.the-variants as end
 use Rattle.rides.specs.declared.replay.Replayed.{Replayed}
 use Rattle.rides.proofs.Recordings.{met-good}
-use Rattle.demands.specs.Demand1.{Exactly}
-use Rattle.demands.specs.Replay.{Replayer, ReplayedAs, ReplaysExactly, three, opened, nineSteps, greatest}
+use Rattle.demands.specs.Replay.{Replayer, ReplaysExactly, three, opened, nineSteps, greatest}
 use Rattle.demands.specs.Lazy.{idles, fromStart, looksLate, ReplaysDue, ReplaysOut}
 use Rattle.demands.proofs.Answered.{only-one}
 use Rattle.demands.proofs.Computes.{definitions}

@@ -1,22 +1,17 @@
 -- Request d holds.
-use Prim.Native.Nat.{ℕ, _+_, _-_, min, _≤_, _<_}
+use Prim.Native.Nat.{ℕ, _+_, _-_, min, _≤_}
 use native.Mathlib.Omega.{arith}
-use mathlib.Core.Bool.{Bool, true, false}
+use mathlib.Core.Bool.{true}
 use mathlib.Core.List.{List}
 use mathlib.Core.Logic.{_⊎_, inl, inr}
 use mathlib.Core.Path.{_≡_, refl, sym, ap, _∙_}
-use Rattle.leaf.specs.Answers.{Answer, given}
 use Rattle.leaf.specs.Bytes.{long}
-use Rattle.card.specs.declared.Settings.{Settings}
-use Rattle.step.specs.declared.Answer.{Answer as Told}
 use Rattle.session.specs.declared.Session.{Session}
-use Rattle.session.specs.Session.{freshSession, openSession}
-use Rattle.session.specs.Runs.{after, allAccepted}
+use Rattle.session.specs.Session.{freshSession}
+use Rattle.session.specs.Runs.{allAccepted}
 use Rattle.rides.specs.Recording.{goodRecording, RecordingMet, samplesIn, trainOf, sampleAt, samplesFrom, samplesOf}
-use Rattle.rides.specs.Ride.{freshRide, toldOf, turnOf, turnAt, rideFrom, runOf, shownBy, wholeRide}
-use Rattle.rides.specs.Replay.{stepsFrom, lastFrom, endAt, ranFrom, unrunBy, replayOf}
-use Rattle.rides.specs.declared.ride.Ride.{Ride}
-use Rattle.rides.specs.declared.replay.End.{End}
+use Rattle.rides.specs.Ride.{freshRide, toldOf, turnOf, turnAt, rideFrom, shownBy}
+use Rattle.rides.specs.Replay.{stepsFrom, lastFrom, ranFrom, unrunBy, replayOf}
 use Rattle.rides.specs.declared.replay.End.the-variants as end
 use Rattle.rides.specs.declared.replay.Replayed.{Replayed}
 use Rattle.rides.proofs.Recordings.{met-good}
@@ -25,7 +20,7 @@ use Rattle.rides.proofs.Refusals.{ride-given}
 use Rattle.laws.specs.Ranges.{Inside}
 use Rattle.laws.proofs.Ranges.{session-ranges}
 use Rattle.laws.proofs.Inside.{inside-laws}
-use Rattle.demands.specs.Replay.{InTurn, acceptedRun, ReplayedAs, Ran, Stopped, asShown, WholeRide, Replay, ReplayExamples}
+use Rattle.demands.specs.Replay.{InTurn, acceptedRun, ReplayedAs, Ran, Stopped, WholeRide, Replay, ReplayExamples}
 use Rattle.demands.specs.Replay as replay
 use Rattle.demands.proofs.Answered.{samples-exactly}
 use Rattle.demands.proofs.Computes.{definitions}

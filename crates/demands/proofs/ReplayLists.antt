@@ -3,11 +3,10 @@
 use Prim.Native.Nat.{ℕ, zero, suc, _+_}
 use native.Mathlib.Omega.{arith}
 use native.Mathlib.Nat.{add-zero}
-use mathlib.Core.Bool.{Bool, true, false, _&&_}
+use mathlib.Core.Bool.{Bool, true, false}
 use mathlib.Core.List.{List, [], _∷_, _++_, append-nil}
 use mathlib.Core.Path.{_≡_, refl, sym, ap, _∙_}
 use lib.Dec.{eqb}
-use borrow.Author.Tests.{eqb-true}
 use Rattle.leaf.specs.Choosing.{pick, and-split}
 use Rattle.leaf.specs.Answers.{Answer, given, refused, refusedAt}
 use Rattle.step.specs.declared.Answer.{Answer as Told}
@@ -15,24 +14,22 @@ use Rattle.session.specs.declared.Sample.{Sample}
 use Rattle.session.specs.declared.Session.{Session}
 use Rattle.session.specs.declared.Sampled.{Sampled}
 use Rattle.session.specs.declared.Outcome.the-variants as outcome
-use Rattle.session.specs.Session.{refusedBy, ranOf, sampleOf}
+use Rattle.session.specs.Session.{refusedBy, sampleOf}
 use Rattle.session.specs.Runs.{accepted, after, allAccepted}
 use Rattle.session.proofs.Runs.{refused-stays}
 use Rattle.rides.specs.Recording.{sampleAt, samplesFrom}
 use Rattle.rides.specs.Ride.{freshRide, turnOf, turnAt, shownOf, rideFrom, runOf, shownBy}
-use Rattle.rides.specs.Replay.{shownNext, stepOf, stepsFrom, laterOf, lastFrom, endAt, ranFrom}
+use Rattle.rides.specs.Replay.{shownNext, stepOf, stepsFrom, laterOf, lastFrom, endAt}
 use Rattle.rides.specs.declared.ride.Ride.{Ride}
 use Rattle.rides.specs.declared.ride.Shown.{Shown}
 use Rattle.rides.specs.declared.ride.Shown.the-variants as shown
 use Rattle.rides.specs.declared.ride.Turned.{Turned}
 use Rattle.rides.specs.declared.replay.Last.{Last}
 use Rattle.rides.specs.declared.replay.Last.the-variants as last
-use Rattle.rides.specs.declared.replay.End.{End}
 use Rattle.rides.specs.declared.replay.End.the-variants as end
 use Rattle.rides.proofs.Runs.{recording-run, ended-run, shows-from, from-suc, ended-shows, ended-turn}
-use Rattle.rides.proofs.Replays.{turned-accepted, turned-refused, Turning, turning, steps-suc, last-suc}
-use Rattle.demands.specs.Demand1.{SampledAs}
-use Rattle.demands.specs.Replay.{InTurn, acceptedRun, LastAs, answersIn, lastIn, endIn, asShown}
+use Rattle.rides.proofs.Replays.{turned-accepted, turned-refused, Turning, turning, steps-suc}
+use Rattle.demands.specs.Replay.{InTurn, acceptedRun, LastAs, answersIn, lastIn, endIn}
 use Rattle.demands.specs.Replay as replay
 use Rattle.demands.proofs.Answered.{samples-exactly}
 

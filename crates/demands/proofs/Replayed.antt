@@ -1,24 +1,20 @@
 -- Request d: a replay is answered exactly as its plain facts say; two quotas and their sum.
-use Prim.Native.Nat.{ℕ, _+_, _-_, min, _≤_, _<_}
+use Prim.Native.Nat.{ℕ, _+_, _-_, min, _<_}
 use native.Mathlib.Omega.{arith}
 use mathlib.Core.Bool.{Bool, true, false}
 use mathlib.Core.List.{List}
 use mathlib.Core.Logic.{_⊎_, inl, inr}
 use mathlib.Core.Path.{_≡_, refl, sym, ap, _∙_}
-use Rattle.leaf.specs.Choosing.{pick}
 use Rattle.leaf.specs.Checks.{orFault}
 use Rattle.session.specs.declared.Session.{Session}
 use Rattle.session.specs.Session.{insideOf}
 use Rattle.rides.specs.Recording.{goodRecording, RecordingMet, samplesIn}
 use Rattle.rides.specs.Replay.{dueFrom, ranFrom, replayOf, unrunBy}
-use Rattle.rides.specs.declared.replay.Last.{Last}
-use Rattle.rides.specs.declared.replay.End.{End}
 use Rattle.rides.specs.declared.replay.End.the-variants as end
 use Rattle.rides.specs.declared.replay.Replayed.{Replayed}
 use Rattle.rides.proofs.Recordings.{good-met, met-good}
 use Rattle.laws.specs.Ranges.{Inside}
 use Rattle.laws.proofs.Ranges.{session-ranges}
-use Rattle.demands.specs.Demand1.{Exactly}
 use Rattle.demands.specs.Replay.{InTurn, ReplayedAs, ReplaysExactly, joined, TwoQuotas}
 use Rattle.demands.specs.Replay as replay
 use Rattle.demands.proofs.Answered.{exactly}

@@ -7,7 +7,7 @@
 --
 -- A replay is defined in crate `rides` (specs/Replay.antt). Here it is said what it comes to, in demand 1's plain facts and over lists of
 -- samples; of every place and quota, 0 and the greatest included. (d1 to d7 are 02's readings.)
-use Prim.Native.Nat.{ℕ, zero, suc, _+_, _-_, min, _≤_, _<_}
+use Prim.Native.Nat.{ℕ, suc, _+_, _-_, min, _≤_, _<_}
 use mathlib.Core.Bool.{true, false}
 use mathlib.Core.List.{List, [], _∷_, _++_}
 use mathlib.Core.Logic.{_⊎_, _↔_}
@@ -25,7 +25,7 @@ use Rattle.session.specs.declared.Outcome.the-variants as outcome
 use Rattle.session.specs.Session.{freshSession, withDesk, openSession, sampleOf}
 use Rattle.session.specs.Runs.{accepted, after, allAccepted}
 use Rattle.rides.specs.Recording.{RecordingMet, trainOf, sampleAt, samplesFrom, samplesOf}
-use Rattle.rides.specs.Ride.{freshRide, runOf, shownBy, wholeRide}
+use Rattle.rides.specs.Ride.{freshRide, runOf, wholeRide}
 use Rattle.rides.specs.Replay.{stepsFrom, replayOf}
 use Rattle.rides.specs.declared.replay.Last.{Last}
 use Rattle.rides.specs.declared.replay.Last.the-variants as last

@@ -2,16 +2,15 @@
 use Prim.Native.Nat.{ℕ, suc, _+_, _*_, _<_, _≤_, min}
 use native.Mathlib.Omega.{arith}
 use native.Mathlib.Numerals.{add-one}
-use mathlib.Core.Path.{_≡_, refl, sym, ap, _∙_}
-use mathlib.Core.Bool.{Bool, true, false, _&&_}
+use mathlib.Core.Path.{_≡_, refl, ap, _∙_}
+use mathlib.Core.Bool.{true, false}
 use mathlib.Core.List.{List, [], _∷_, _++_}
 use lib.ListN.{length, getD, take, drop}
 use lib.Seq.{take-suc, take-all, split-at}
 use borrow.Author.Tests.{lt-ltb, le-ltb}
-use Rattle.leaf.specs.Choosing.{pick, and-split}
+use Rattle.leaf.specs.Choosing.{and-split}
 use Rattle.text.specs.Hex.{hexValue}
 use Rattle.printed_replay.specs.Word.{mostQuota, isDigit, allDigits, isNumber, valueBehind, valueOf, quotaIn}
-use Rattle.printed_replay.specs.declared.Quota.{Quota}
 use Rattle.printed_replay.specs.declared.Quota.the-variants.{None, Number}
 
 -- where there is a byte, all of them decide

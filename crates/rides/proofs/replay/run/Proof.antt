@@ -1,7 +1,6 @@
-use Prim.Native.Nat.{suc, _+_, _-_, _≤_, _<_}
+use Prim.Native.Nat.{_-_, _≤_}
 use native.Mathlib.Omega.{arith}
-use native.Mathlib.Numerals.{add-one}
-use mathlib.Core.Path.{_≡_, refl, sym, _∙_}
+use mathlib.Core.Path.{_≡_, _∙_}
 use borrow.Author.Needs.{needs}
 use Rattle.rides.proofs.Replays.{step-low, At, none-at, next-at, so-far-is, ended-all}
 use Rattle.rides.proofs.replay.run.Statement.{statement}
