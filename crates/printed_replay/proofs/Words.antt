@@ -2,16 +2,15 @@
 use Prim.Native.Nat.{ℕ, suc, _+_, _*_, _<_, _≤_, min}
 use native.Mathlib.Omega.{arith}
 use native.Mathlib.Numerals.{add-one}
-use mathlib.Core.Path.{_≡_, refl, sym, ap, _∙_}
-use mathlib.Core.Bool.{Bool, true, false, _&&_}
+use mathlib.Core.Path.{_≡_, refl, ap, _∙_}
+use mathlib.Core.Bool.{true, false}
 use mathlib.Core.List.{List, [], _∷_, _++_}
 use lib.ListN.{length, getD, take, drop}
 use lib.Seq.{take-suc, take-all, split-at}
 use borrow.Author.Tests.{lt-ltb, le-ltb}
-use Rattle.leaf.specs.Choosing.{pick, and-split}
+use Rattle.leaf.specs.Choosing.{and-split}
 use Rattle.text.specs.Hex.{hexValue}
 use Rattle.printed_replay.specs.Word.{mostQuota, isDigit, allDigits, isNumber, valueBehind, valueOf, quotaIn}
-use Rattle.printed_replay.specs.declared.Quota.{Quota}
 use Rattle.printed_replay.specs.declared.Quota.the-variants.{None, Number}
 
 -- where there is a byte, all of them decide
@@ -54,21 +53,19 @@ module _ (word : List ℕ) (i n : ℕ) (said : Said word i n) where
   pub one-more : i < length word → hexValue (getD word i 0) < 10 → Said word (i + 1) (min (n * 10 + hexValue (getD word i 0)) mostQuota)
   unfolding allDigits valueBehind
   one-more here digit =
+      let next = take-suc word i 0 here in
       record {
         inside = omega arith;
-        digits = rw (add-one, take-suc word i 0 here, digits-append (take i word) (getD word i 0 ∷ []) (said .digits), lt-ltb _ _ digit);
-        number = rw (add-one, take-suc word i 0 here, value-append 0 (take i word) (getD word i 0 ∷ []), said .number) (cut-off (valueOf (take i word)) (hexValue (getD word i 0)));
+        digits = rw (add-one, next, digits-append (take i word) (getD word i 0 ∷ []) (said .digits), lt-ltb _ _ digit);
+        number = rw (add-one, next, value-append 0 (take i word) (getD word i 0 ∷ []), said .number) (cut-off (valueOf (take i word)) (hexValue (getD word i 0)));
       }
 
   -- a byte that is none
   pub other : i < length word → 10 ≤ hexValue (getD word i 0) → None ≡ quotaIn word
   unfolding allDigits quotaIn
   other here digit =
-      let parts = split-at word i 0 here in
-      let bad : allDigits word ≡ false =
-      ap allDigits parts
-      ∙ digits-append (take i word) (getD word i 0 ∷ drop (suc i) word) (said .digits)
-      ∙ rw (le-ltb _ _ digit) in
+      let behind = digits-append (take i word) (getD word i 0 ∷ drop (suc i) word) (said .digits) in
+      let bad : allDigits word ≡ false = ap allDigits (split-at word i 0 here) ∙ behind ∙ rw (le-ltb _ _ digit) in
       rw (is-number word (omega arith), bad)
 
   -- at the word's end
