@@ -1,2 +1,3 @@
 pub mod ReplayTexts
 pub mod Words
+pub mod Examples

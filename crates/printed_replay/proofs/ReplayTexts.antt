@@ -1,6 +1,5 @@
--- What the start prints where it is refused; that the place where a quota ends is one that a recording can have; and how large a buffer holds the
--- lines of a quota.
-use Prim.Native.Nat.{ℕ, _+_, _≤_}
+-- What the start prints where it is refused; that the place where a quota ends fits two bytes; and how large a buffer holds the lines of a quota.
+use Prim.Native.Nat.{ℕ, _+_, _≤_, min}
 use native.Mathlib.Omega.{arith}
 use mathlib.Core.Path.{_≡_, refl}
 use mathlib.Core.Bool.{Bool, true, false}
@@ -26,6 +25,7 @@ use Rattle.rides.proofs.Replays.{steps-low, few-samples}
 use Rattle.printed.specs.Printed.{refusedLine, columnsOf, shownText}
 use Rattle.printed.specs.declared.Columns.the-variants.{Whole}
 use Rattle.printed.proofs.Room.{shown-length}
+use Rattle.printed_replay.specs.Word.{mostQuota}
 use Rattle.printed_replay.specs.Quotas.{startAfter, startOn, begunText, startText, ranLine, refusedAtLine, replayedText, quotaText, placeAfter}
 
 -- ---- a start that is refused
@@ -50,6 +50,19 @@ place-fits recording place s quota h = cases (eqb (unrunBy recording s) 0) refl
         → place + pick t (ranFrom s recording place (dueFrom recording place quota)) (unrunOf (unrunBy recording s) s) .ran ≤ 65535
     cases true e = omega (arith, few-samples recording s (eqb-true _ _ e), steps-low (freshRide s) recording place (dueFrom recording place quota))
     cases false e = omega arith
+
+-- a quota above the greatest that a word gives is the same quota
+pub most-quota : (recording : List ℕ) (place : ℕ) (s : Session) (n : ℕ) → replayOf recording place s (min n mostQuota) ≡ replayOf recording place s n
+unfolding replayOf
+most-quota recording place s n = cases (eqb (unrunBy recording s) 0) refl
+  where
+    cases : (t : Bool) → eqb (unrunBy recording s) 0 ≡ t
+        → pick t (ranFrom s recording place (dueFrom recording place (min n mostQuota))) (unrunOf (unrunBy recording s) s)
+        ≡ pick t (ranFrom s recording place (dueFrom recording place n)) (unrunOf (unrunBy recording s) s)
+    cases true e =
+        let same : dueFrom recording place (min n mostQuota) ≡ dueFrom recording place n = omega (arith, few-samples recording s (eqb-true _ _ e)) in
+        rw same
+    cases false e = refl
 
 -- ---- how large a buffer holds what is printed
 

@@ -53,21 +53,19 @@ module _ (word : List ℕ) (i n : ℕ) (said : Said word i n) where
   pub one-more : i < length word → hexValue (getD word i 0) < 10 → Said word (i + 1) (min (n * 10 + hexValue (getD word i 0)) mostQuota)
   unfolding allDigits valueBehind
   one-more here digit =
+      let next = take-suc word i 0 here in
       record {
         inside = omega arith;
-        digits = rw (add-one, take-suc word i 0 here, digits-append (take i word) (getD word i 0 ∷ []) (said .digits), lt-ltb _ _ digit);
-        number = rw (add-one, take-suc word i 0 here, value-append 0 (take i word) (getD word i 0 ∷ []), said .number) (cut-off (valueOf (take i word)) (hexValue (getD word i 0)));
+        digits = rw (add-one, next, digits-append (take i word) (getD word i 0 ∷ []) (said .digits), lt-ltb _ _ digit);
+        number = rw (add-one, next, value-append 0 (take i word) (getD word i 0 ∷ []), said .number) (cut-off (valueOf (take i word)) (hexValue (getD word i 0)));
       }
 
   -- a byte that is none
   pub other : i < length word → 10 ≤ hexValue (getD word i 0) → None ≡ quotaIn word
   unfolding allDigits quotaIn
   other here digit =
-      let parts = split-at word i 0 here in
-      let bad : allDigits word ≡ false =
-      ap allDigits parts
-      ∙ digits-append (take i word) (getD word i 0 ∷ drop (suc i) word) (said .digits)
-      ∙ rw (le-ltb _ _ digit) in
+      let behind = digits-append (take i word) (getD word i 0 ∷ drop (suc i) word) (said .digits) in
+      let bad : allDigits word ≡ false = ap allDigits (split-at word i 0 here) ∙ behind ∙ rw (le-ltb _ _ digit) in
       rw (is-number word (omega arith), bad)
 
   -- at the word's end

@@ -49,8 +49,8 @@ startText card recording = heading ++ begunText (startOn card recording)
 abbrev pub noneWord : List ℕ
 noneWord = ascii "none" ++ newline ∷ []
 
--- "the last answer (none if no sample ran)": the place that the quota began at, "the number of samples run", and the five numbers of the last answer or
--- the word `none`
+-- the place that the quota began at, "the number of samples run", and "the last answer (none if no sample ran)": its five numbers, S, lamps, cause, icon
+-- and limit, or the word
 unfoldable pub ranLine : ℕ → ℕ → Last → List ℕ
 ranLine place ran (last.Answered a) = line place (ran ∷ columnsOf Whole a)
 ranLine place ran last.None = ended place blank ++ ended ran blank ++ noneWord

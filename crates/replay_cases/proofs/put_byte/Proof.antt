@@ -1,6 +1,6 @@
 use borrow.Author.Needs.{needs}
 use native.Mathlib.Omega.{arith}
-use lib.ListN.{length, length-set}
+use lib.ListN.{length-set}
 use Rattle.replay_cases.proofs.put_byte.Statement.{statement}
 use Rattle.replay_cases.proofs.put_byte.Tie as tie
 
