@@ -1,5 +1,5 @@
 // What `ride` and `trace` share: the card from a file, the recording from standard input, the text to standard output; and
-// the first of it, heading and card, with `receive`.
+// the first of it, heading and card, with `receive` and `replay`, which has its own heading.
 //
 // All that is printed below the heading and of a card that could be read is one text of `printed::print_ride`. The bytes
 // read and written are the system's, of which no contract speaks.
@@ -18,9 +18,9 @@ const RECORDING_ROOM: usize = 60007;
 // A heading of 34 bytes, and 10,000 lines of six numbers, none of more than ten digits and what ends it.
 const TEXT_ROOM: usize = 660040;
 
-// Room for the recording and for the text. Each ensures its length, which lending needs: a check that counts the zeros
-// takes seconds.
-fn recording_room() -> [u8; RECORDING_ROOM]
+// Room for the recording, one byte more than the longest has, and for the text. Each ensures its length, which lending needs: a
+// check that counts the zeros takes seconds.
+pub fn recording_room() -> [u8; RECORDING_ROOM]
     ensures { λ r. ⌜ 60007 ≡ length r ⌝ }
 {
     [0; RECORDING_ROOM]
@@ -30,13 +30,6 @@ fn text_room() -> [u8; TEXT_ROOM]
     ensures { λ r. ⌜ 660040 ≡ length r ⌝ }
 {
     [0; TEXT_ROOM]
-}
-
-// Says the heading: how many bytes it has, 0 where it could not be written.
-fn say_heading(columns: Columns) -> usize {
-    let mut space = [0u8; 64];
-    let h = print_heading(columns, &mut space);
-    if say(&space[..h]) { h } else { 0 }
 }
 
 // The ride of the recording on standard input, on this card, below the heading of h bytes.
@@ -56,17 +49,17 @@ pub struct Below {
     pub heading: usize,
 }
 
-// Says the heading, then reads the card's file, which the first argument names. Of it more than the longest record is read,
+// Says a heading, then reads the card's file, which the first argument names. Of it more than the longest record is read,
 // where the buffer has room. None is read where the heading could not be written.
-pub fn card_below(columns: Columns, buf: &mut [u8]) -> Below
+pub fn card_under(heading: &[u8], buf: &mut [u8]) -> Below
     ensures { λ r. ⌜ Counts (r .length) (now (buf .exit)) ⌝ }
 {
-    let h = say_heading(columns);
-    if h == 0 {
+    let h = heading.len();
+    if !say(heading) {
         return Below {
             is_read: false,
             length: 0,
-            heading: 0,
+            heading: h,
         };
     }
     let card = shell::named_file(buf);
@@ -75,6 +68,15 @@ pub fn card_below(columns: Columns, buf: &mut [u8]) -> Below
         length: card.length,
         heading: h,
     }
+}
+
+// The same below the heading of a printed ride.
+pub fn card_below(columns: Columns, buf: &mut [u8]) -> Below
+    ensures { λ r. ⌜ Counts (r .length) (now (buf .exit)) ⌝ }
+{
+    let mut space = [0u8; 64];
+    let h = print_heading(columns, &mut space);
+    card_under(&space[..h], buf)
 }
 
 // The whole program: its one argument is the card's file. Any other number of arguments is answered with the usage.

@@ -1,0 +1,2 @@
+pub mod ReplayTexts
+pub mod Words
