@@ -1,4 +1,5 @@
-"""ask.py PROGRAM [ARGUMENT..]: runs ride, trace, receive or show_card for a person, with a status; a refused ride is said in words too."""
+"""ask.py PROGRAM [ARGUMENT..]: runs ride, trace, receive, replay or show_card for a person, with a status; a refused ride is said in words
+too."""
 
 import sys
 
@@ -20,6 +21,13 @@ stands (0, 1).""",
 Prints the ride as ./ride does while its bytes come: each line when its sample is complete, a refusal at the byte that makes it certain.
 The end of LINE is the recording's end, as when the writer of a pipe closes it. A read takes what has come, SIZE bytes at most: 1 to 4096,
 in one to four digits, 64 when not said.""",
+    "replay": """usage: ./replay CARD QUOTA.. < RECORDING
+
+Runs the ride with stops: as many samples as the first QUOTA says, then as many as the next from there on, and so on. 10 samples are a
+second, 600 a minute. Each stop is a line: the place where its quota began, which is how many samples come before it; how many ran; and
+the answer to the last of them in the last five columns of ./trace, or `none` where none ran. The last sample of a line is number
+place + ran of ./ride. A QUOTA is a number in digits alone. It may be 0, and where it is more than what is left the ride runs to its end.
+Where a sample is refused the last line is `refused`, the number, `at` and its place, and standard error has it in words.""",
     "show_card": """usage: ./show_card FILE
 
 Lists the settings of the card in FILE, or says why it is refused. Where FILE is - the card comes on standard input. bench/unhex makes
@@ -33,8 +41,7 @@ def ride(name, card, given=None, more=()):
     start = plain.place(recording)
     heard = programs.pass_on(name, [card, *more], given)
     if heard.refusal:
-        answered = heard.lines - 2  # the heading and the refusal are lines too
-        desk.say_refusal(int(heard.refusal.split()[1]), answered, plain.read_again(card), plain.read_from(recording, start))
+        desk.say_refusal(*heard.ride_refusal(), plain.read_again(card), plain.read_from(recording, start))
     return heard.status()
 
 
@@ -52,15 +59,20 @@ def receive(card, *size):
     return ride("receive", card, more=size)
 
 
+def recorded(name, card, *quotas):
+    """Prints the ride of a recording that is there, or with quotas where it stops. Gives the status."""
+    plain.check_input("recording", USAGES[name])
+    return ride(name, card, more=quotas)
+
+
 def main(name, arguments):
     if name == "receive" and len(arguments) in (1, 2):
         return receive(*arguments)
-    if len(arguments) != 1:
+    if name == "replay" and len(arguments) > 1:
+        return recorded(name, *arguments)
+    if len(arguments) != 1 or name == "replay":
         raise plain.Usage
-    if name == "show_card":
-        return show_card(*arguments)
-    plain.check_input("recording", USAGES[name])
-    return ride(name, arguments[0])
+    return show_card(*arguments) if name == "show_card" else recorded(name, *arguments)
 
 
 if __name__ == "__main__":

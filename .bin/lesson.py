@@ -1,5 +1,6 @@
 """lesson.py [NAME]: prints a lesson's ride and what to look at in it; alone, the lessons there are."""
 
+import re
 import sys
 import textwrap
 
@@ -53,6 +54,21 @@ def look_at(name):
         yield textwrap.fill(words, WIDTH)
 
 
+def quotas(name):
+    """Those that stop a lesson at each sample of its table."""
+    rows = [] if lessons.variant(name) else lessons.Page(lessons.rides()[name]).look_at()
+    stops = sorted({int(number) for n, _ in rows for number in re.findall(r"\b[0-9]{1,5}\b", n)})
+    return " ".join(str(there - before) for before, there in zip([0, *stops], stops))
+
+
+def other_ways(name, card, recording):
+    """The commands that show the ride in another way."""
+    yield f"As a page:    ./tell {card} < {recording}"
+    yield f"As a drawing: ./picture {card} < {recording} > target/ride.svg"
+    if quotas(name):
+        yield f"With stops:   ./replay {card} {quotas(name)} < {recording}"
+
+
 def files(name):
     """Makes the files of a ride: its card and its recording. The lesson's other rides may be at fault."""
     path = lessons.rides()[name] / f"ride{lessons.variant(name)}.txt"
@@ -75,9 +91,8 @@ def main(arguments):
     card, recording = files(name)
     with open(recording, "rb") as given:
         status = ask.ride("ride", card, given)
-    plain.say("\n" + "".join(line + "\n" for line in look_at(name)))
-    paths = " < ".join(str(path.relative_to(desk.ROOT)) for path in (card, recording))
-    plain.say(f"\nAs a page:    ./tell {paths}\nAs a drawing: ./picture {paths} > target/ride.svg\n")
+    below = [*look_at(name), "", *other_ways(name, *(path.relative_to(desk.ROOT) for path in (card, recording)))]
+    plain.say("\n" + "".join(line + "\n" for line in below))
     return status
 
 

@@ -46,6 +46,12 @@ class Heard:
             line += why_unreadable(line[len(b"cannot read "):])
         plain.complain(plain.encoded(f"{self.name}: ") + line)
 
+    def ride_refusal(self):
+        """The number by which a ride was refused, and how many of its samples come before the one at fault: so many as the line says, as
+        in `refused 9 at 1`, or one for each line between the heading and it."""
+        _, number, *at = self.refusal.split()
+        return int(number), int(at[1]) if at else self.lines - 2
+
     def status(self):
         if self.failed:
             return 2
