@@ -35,27 +35,27 @@ module _ (recording : List ℕ) (place : ℕ) (s : Session) (quota : ℕ) where
   -- ---- a bare number
 
   bare-as : (r : Replayed) → ReplayedAs recording place s quota r → (m : ℕ) → r .end ≡ end.Refused m
-      → (((m ≡ 14) × ((n : ℕ) → RecordingMet recording n → ⊥)) ⊎ ((m ≡ 8) × (Inside s → ⊥))) × (r ≡ replay.unrunBy m s)
-  bare-as r (replay.ReplayedAs.refused-14 none) m e = let n : m ≡ 14 = cc in (inl (n, none), ap (λ (k : ℕ). replay.unrunBy k s) (sym n))
-  bare-as r (replay.ReplayedAs.refused-8 met out) m e = let n : m ≡ 8 = cc in (inr (n, out), ap (λ (k : ℕ). replay.unrunBy k s) (sym n))
+      → (((m ≡ 14) × ((n : ℕ) → RecordingMet recording n → ⊥)) ⊎ ((m ≡ 8) × (Inside s → ⊥))) × (r ≡ replay.noneRun m s)
+  bare-as r (replay.ReplayedAs.refused-14 none) m e = let n : m ≡ 14 = cc in (inl (n, none), ap (λ (k : ℕ). replay.noneRun k s) (sym n))
+  bare-as r (replay.ReplayedAs.refused-8 met out) m e = let n : m ≡ 8 = cc in (inr (n, out), ap (λ (k : ℕ). replay.noneRun k s) (sym n))
   bare-as r (replay.ReplayedAs.unrefused met i due t) m e = let z : _≡_ {A = ℕ} 0 1 = cc in absurd (omega arith)
   bare-as r (replay.ReplayedAs.refused-sample met i h t q) m e = let z : _≡_ {A = ℕ} 0 1 = cc in absurd (omega arith)
 
-  bare : (m : ℕ) → replayOf recording place s quota .end ≡ end.Refused m → ((m ≡ 14) ⊎ (m ≡ 8)) × (replayOf recording place s quota ≡ replay.unrunBy m s)
+  bare : (m : ℕ) → replayOf recording place s quota .end ≡ end.Refused m → ((m ≡ 14) ⊎ (m ≡ 8)) × (replayOf recording place s quota ≡ replay.noneRun m s)
   bare m e = let b = bare-as _ is-as m e in (either (b .0), b .1)
     where
       either : ((m ≡ 14) × ((n : ℕ) → RecordingMet recording n → ⊥)) ⊎ ((m ≡ 8) × (Inside s → ⊥)) → (m ≡ 14) ⊎ (m ≡ 8)
       either (inl p) = inl (p .0)
       either (inr p) = inr (p .0)
 
-  only-14 : replayOf recording place s quota ≡ replay.unrunBy 14 s → (n : ℕ) → RecordingMet recording n → ⊥
+  only-14 : replayOf recording place s quota ≡ replay.noneRun 14 s → (n : ℕ) → RecordingMet recording n → ⊥
   only-14 e = of (bare-as _ is-as 14 (ap (λ (r : Replayed). r .end) e) .0)
     where
       of : ((_≡_ {A = ℕ} 14 14) × ((n : ℕ) → RecordingMet recording n → ⊥)) ⊎ ((_≡_ {A = ℕ} 14 8) × (Inside s → ⊥)) → (n : ℕ) → RecordingMet recording n → ⊥
       of (inl p) = p .1
       of (inr p) = let z = p .0 in absurd (omega arith)
 
-  only-8 : replayOf recording place s quota ≡ replay.unrunBy 8 s → Inside s → ⊥
+  only-8 : replayOf recording place s quota ≡ replay.noneRun 8 s → Inside s → ⊥
   only-8 e = of (bare-as _ is-as 8 (ap (λ (r : Replayed). r .end) e) .0)
     where
       of : ((_≡_ {A = ℕ} 8 14) × ((n : ℕ) → RecordingMet recording n → ⊥)) ⊎ ((_≡_ {A = ℕ} 8 8) × (Inside s → ⊥)) → Inside s → ⊥

@@ -23,11 +23,11 @@ use Rattle.demands.proofs.InTurn as in-turn
 -- ---- 14, 8, or samples
 
 module _ (recording : List ℕ) (place : ℕ) (s : Session) (quota : ℕ) where
-  bad : goodRecording recording ≡ false → replayOf recording place s quota ≡ replay.unrunBy 14 s
+  bad : goodRecording recording ≡ false → replayOf recording place s quota ≡ replay.noneRun 14 s
   unfolding replayOf unrunBy orFault
   bad e = rw e
 
-  out : goodRecording recording ≡ true → insideOf s ≡ false → replayOf recording place s quota ≡ replay.unrunBy 8 s
+  out : goodRecording recording ≡ true → insideOf s ≡ false → replayOf recording place s quota ≡ replay.noneRun 8 s
   unfolding replayOf unrunBy orFault
   out e f = rw (e, f)
 
@@ -61,12 +61,12 @@ module _ (recording : List ℕ) (place : ℕ) (s : Session) (quota : ℕ) where
   only : (r : Replayed) → ReplayedAs recording place s quota r → replayOf recording place s quota ≡ r
   only r (replay.ReplayedAs.refused-14 none) = cases (goodRecording recording) refl
     where
-      cases : (t : Bool) → goodRecording recording ≡ t → replayOf recording place s quota ≡ replay.unrunBy 14 s
+      cases : (t : Bool) → goodRecording recording ≡ t → replayOf recording place s quota ≡ replay.noneRun 14 s
       cases true e = absurd (none _ (good-met recording e))
       cases false e = bad e
   only r (replay.ReplayedAs.refused-8 {n = n} m outside) = cases (insideOf s) refl
     where
-      cases : (t : Bool) → insideOf s ≡ t → replayOf recording place s quota ≡ replay.unrunBy 8 s
+      cases : (t : Bool) → insideOf s ≡ t → replayOf recording place s quota ≡ replay.noneRun 8 s
       cases true f = absurd (outside (session-ranges .inside-exactly s .0 f))
       cases false f = out (met-good recording n m .0) f
   only r (replay.ReplayedAs.unrefused {n = n} {k = k} {behind = u} {l = l} m i due t) =

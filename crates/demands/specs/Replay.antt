@@ -54,14 +54,14 @@ acceptedRun s (x ∷ xs) = pick (accepted s x) (suc (acceptedRun (sampleOf s x .
 -- ---- what a replay is answered as
 
 -- no sample ran, and the session is the one handed in
-abbrev pub unrunBy : ℕ → Session → Replayed
-unrunBy n s = record { session = s; last = last.None; ran = 0; end = end.Refused n }
+abbrev pub noneRun : ℕ → Session → Replayed
+noneRun n s = record { session = s; last = last.None; ran = 0; end = end.Refused n }
 
 pub data ReplayedAs (recording : List ℕ) (place : ℕ) (s : Session) (quota : ℕ) : Replayed → Type 0 where
   -- "recording not exactly as long as stated, length not 6 + 6n with n ≤ 10,000, or version not 1"
-  refused-14 : ((n : ℕ) → RecordingMet recording n → ⊥) → ReplayedAs recording place s quota (unrunBy 14 s)
+  refused-14 : ((n : ℕ) → RecordingMet recording n → ⊥) → ReplayedAs recording place s quota (noneRun 14 s)
   -- "8 even if none runs": "session out of its ranges"
-  refused-8 : {n : ℕ} → RecordingMet recording n → (Inside s → ⊥) → ReplayedAs recording place s quota (unrunBy 8 s)
+  refused-8 : {n : ℕ} → RecordingMet recording n → (Inside s → ⊥) → ReplayedAs recording place s quota (noneRun 8 s)
   -- "the smaller of quota and samples left", "past the end none are left"
   unrefused : {n k : ℕ} {behind : Session} {l : Last} → RecordingMet recording n → Inside s → k ≡ min quota (n - place)
       → InTurn recording place s k behind l
@@ -156,11 +156,11 @@ pub record Replay : Type 0 where
   -- 1. 14 exactly when the recording is not good; else 8 exactly when the session is out of its ranges; at every place and quota (d3). There is no
   -- other bare number, and none of a sample's own is 8 or 14.
   pub refused-14 : (recording : List ℕ) (place : ℕ) (s : Session) (quota : ℕ)
-      → (replayOf recording place s quota ≡ unrunBy 14 s) ↔ ((n : ℕ) → RecordingMet recording n → ⊥)
+      → (replayOf recording place s quota ≡ noneRun 14 s) ↔ ((n : ℕ) → RecordingMet recording n → ⊥)
   pub refused-8 : (recording : List ℕ) (n place : ℕ) (s : Session) (quota : ℕ) → RecordingMet recording n
-      → (replayOf recording place s quota ≡ unrunBy 8 s) ↔ (Inside s → ⊥)
+      → (replayOf recording place s quota ≡ noneRun 8 s) ↔ (Inside s → ⊥)
   pub bare : (recording : List ℕ) (place : ℕ) (s : Session) (quota m : ℕ) → replayOf recording place s quota .end ≡ end.Refused m
-      → ((m ≡ 14) ⊎ (m ≡ 8)) × (replayOf recording place s quota ≡ unrunBy m s)
+      → ((m ≡ 14) ⊎ (m ≡ 8)) × (replayOf recording place s quota ≡ noneRun m s)
   pub sample-numbers : (recording : List ℕ) (place : ℕ) (s : Session) (quota m position : ℕ)
       → replayOf recording place s quota .end ≡ end.RefusedAt m position → (9 ≤ m) × (m ≤ 11)
   -- 2. Unrefused exactly when every sample within quota and ride is accepted in turn; then the number run is the lesser of the quota and the
@@ -253,7 +253,7 @@ pub record ReplayExamples : Type 0 where
   pub behind-quota : replayOf (threeWith 6 13) 0 opened 1 ≡ replayed (rode (one ∷ [])) (told 10000 0 0) 1 end.Unrefused
   pub before-place : replayOf (threeWith 6 13) 2 opened 1 ≡ replayed (rode (last-of-three ∷ [])) (told 10000 0 0) 1 end.Unrefused
   -- "14, then 8, also at quota 0 or past the end, then 9, 10, 11" (d3)
-  pub nine-steps : replayOf three 0 nineSteps 0 ≡ unrunBy 8 nineSteps
-  pub nine-steps-past : replayOf three greatest nineSteps 1 ≡ unrunBy 8 nineSteps
-  pub nine-steps-13 : replayOf (threeWith 6 13) 1 nineSteps 1 ≡ unrunBy 8 nineSteps
-  pub fourteen-first : replayOf (0x00 ∷ three) 0 nineSteps 0 ≡ unrunBy 14 nineSteps
+  pub nine-steps : replayOf three 0 nineSteps 0 ≡ noneRun 8 nineSteps
+  pub nine-steps-past : replayOf three greatest nineSteps 1 ≡ noneRun 8 nineSteps
+  pub nine-steps-13 : replayOf (threeWith 6 13) 1 nineSteps 1 ≡ noneRun 8 nineSteps
+  pub fourteen-first : replayOf (0x00 ∷ three) 0 nineSteps 0 ≡ noneRun 14 nineSteps
