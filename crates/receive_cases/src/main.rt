@@ -7,9 +7,8 @@
 //
 // Digits are hexadecimal, two a byte; a card of no bytes is `-`. tests/compare/README.md has the rest. What no line can bring is
 // brought here: empty pieces, more than one end, and bytes behind an end.
-ghost use Prim.Native.Nat.{_≤_};
-ghost use lib.ListN.{length};
-ghost use Rattle.io.specs.Counts.{Counts};
+use case_lines::behind;
+use case_lines::unhex;
 use leaf::byte_at;
 use printed::Columns;
 use printed::print_heading;
@@ -20,68 +19,10 @@ use printed_pieces::print_start;
 use receiver::Receiver;
 use receiver::Started;
 use receiver::Status;
-use text::hex_digit;
 use text::put;
 use text::put_ended;
 use text::put_labelled;
 use text::put_text;
-
-// ---- a line's words
-
-// Where the word behind the next blank begins, or the line's end.
-fn word_behind(line: &[u8], from: usize) -> usize
-    ensures { λ r. ⌜ r ≤ length (now (line .entry)) ⌝ }
-{
-    let mut i = from;
-    while i < line.len() {
-        if line[i] == b' ' {
-            return i + 1;
-        }
-        i += 1;
-    }
-    line.len()
-}
-
-// How many bytes stand at the start of the buffer, and where in the line they end.
-struct Bytes {
-    length: usize,
-    next: usize,
-}
-
-// The byte of two digits behind the first n, where the second is in and there is room for it: how many there are then.
-fn put_byte(bytes: &mut [u8], n: usize, is_low: bool, high: u8, digit: u8) -> usize
-    requires { ⌜ n ≤ length (now bytes) ⌝ }
-    ensures { λ r. ⌜ r ≤ length (now (bytes .exit)) ⌝ }
-{
-    if is_low {
-        if n < bytes.len() {
-            bytes[n] = high % 16 * 16 + digit % 16;
-            return n + 1;
-        }
-    }
-    n
-}
-
-// The bytes that the line's digits from this place on say, up to what is no digit.
-fn unhex(line: &[u8], from: usize, bytes: &mut [u8]) -> Bytes
-    ensures { λ r. ⌜ Counts (r .length) (now (bytes .exit)) ⌝ }
-{
-    let mut n = 0;
-    let mut high: u8 = 0;
-    let mut is_low = false;
-    let mut i = from;
-    while i < line.len() {
-        let digit = hex_digit(line[i]);
-        if digit > 15 {
-            break;
-        }
-        n = put_byte(bytes, n, is_low, high, digit);
-        high = digit;
-        is_low = !is_low;
-        i += 1;
-    }
-    Bytes { length: n, next: i }
-}
 
 // ---- what a call shows
 
@@ -285,8 +226,8 @@ fn start_at(way: Way, line: &[u8], from: usize) {
     let h = print_heading(Columns::Paper, &mut space);
     let card = unhex(line, from, &mut space);
     let n = card.length;
-    let behind = word_behind(line, from);
-    start(way, &space[..n], h, &line[behind..]);
+    let word = behind(line, from, b' ');
+    start(way, &space[..n], h, &line[word..]);
 }
 
 fn step_at(line: &[u8], from: usize) -> u8 {
@@ -298,14 +239,14 @@ fn step_at(line: &[u8], from: usize) -> u8 {
 fn answer(line: &[u8]) {
     shell::say(line);
     shell::say(b"\n");
-    let next = word_behind(line, 0);
+    let next = behind(line, 0, b' ');
     let kind = byte_at(line, 0);
     match kind {
         b'p' => start_at(Way::Pieces, line, next),
         b'c' => start_at(
             Way::Cuts(step_at(line, next)),
             line,
-            word_behind(line, next),
+            behind(line, next, b' '),
         ),
         _ => (),
     }

@@ -10,10 +10,9 @@
 // refused is `refused N` alone. Places and quotas are decimal, all else is hexadecimal, two digits a byte; no bytes are `-`.
 // tests/compare/README.md has the rest. What the program `replay` cannot show is shown here: any place, a session that is handed in
 // out of its ranges or for another train type, and calls behind a refused one.
-ghost use Prim.Native.Nat.{_≤_};
-ghost use lib.ListN.{length};
-ghost use Rattle.io.specs.Counts.{Counts};
 use card::Reading;
+use case_lines::behind;
+use case_lines::unhex;
 use leaf::byte_at;
 use leaf::choose32;
 use printed::HIGHEST;
@@ -35,61 +34,6 @@ use text::put_labelled;
 use text::put_text;
 
 // ---- a line's words
-
-// Behind the next such mark from this place on, or the end.
-fn behind(text: &[u8], from: usize, mark: u8) -> usize
-    ensures { λ r. ⌜ r ≤ length (now (text .entry)) ⌝ }
-{
-    let mut i = from;
-    while i < text.len() {
-        if text[i] == mark {
-            return i + 1;
-        }
-        i += 1;
-    }
-    text.len()
-}
-
-fn word_behind(line: &[u8], from: usize) -> usize
-    ensures { λ r. ⌜ r ≤ length (now (line .entry)) ⌝ }
-{
-    behind(line, from, b' ')
-}
-
-// The byte of two digits behind the first n, where the second is in and there is room for it: how many there are then.
-fn put_byte(bytes: &mut [u8], n: usize, is_low: bool, high: u8, digit: u8) -> usize
-    requires { ⌜ n ≤ length (now bytes) ⌝ }
-    ensures { λ r. ⌜ r ≤ length (now (bytes .exit)) ⌝ }
-{
-    if is_low {
-        if n < bytes.len() {
-            bytes[n] = high % 16 * 16 + digit % 16;
-            return n + 1;
-        }
-    }
-    n
-}
-
-// The bytes that the line's digits from this place on say, up to what is no digit: how many stand at the start of the buffer.
-fn unhex(line: &[u8], from: usize, bytes: &mut [u8]) -> usize
-    ensures { λ r. ⌜ Counts r (now (bytes .exit)) ⌝ }
-{
-    let mut n = 0;
-    let mut high: u8 = 0;
-    let mut is_low = false;
-    let mut i = from;
-    while i < line.len() {
-        let digit = hex_digit(line[i]);
-        if digit > 15 {
-            break;
-        }
-        n = put_byte(bytes, n, is_low, high, digit);
-        high = digit;
-        is_low = !is_low;
-        i += 1;
-    }
-    n
-}
 
 fn one_byte(line: &[u8], from: usize) -> u8 {
     let mut byte = [0u8; 1];
@@ -236,8 +180,9 @@ fn go(way: Way, session: Session, recording: &[u8], calls: &[u8]) {
 // The recording from this place of the line on, and the calls behind it.
 fn go_at(way: Way, session: Session, line: &[u8], from: usize) {
     let mut space = io::large_buffer();
-    let n = unhex(line, from, &mut space);
-    let calls = word_behind(line, from);
+    let recording = unhex(line, from, &mut space);
+    let n = recording.length;
+    let calls = behind(line, from, b' ');
     go(way, session, &space[..n], &line[calls..]);
 }
 
@@ -258,10 +203,11 @@ fn opened_on(card: &[u8], train: u8) -> Opened {
 // The card from this place of the line on, and the recording behind it.
 fn start_at(way: Way, train: u8, line: &[u8], from: usize) {
     let mut space = io::large_buffer();
-    let n = unhex(line, from, &mut space);
+    let card = unhex(line, from, &mut space);
+    let n = card.length;
     let opened = opened_on(&space[..n], train);
     match opened {
-        Opened::Ready(session) => go_at(way, session, line, word_behind(line, from)),
+        Opened::Ready(session) => go_at(way, session, line, behind(line, from, b' ')),
         Opened::Refused(why) => say_refused(number_of(why)),
     }
 }
@@ -269,8 +215,8 @@ fn start_at(way: Way, train: u8, line: &[u8], from: usize) {
 fn answer(line: &[u8]) {
     shell::say(line);
     shell::say(b"\n");
-    let first = word_behind(line, 0);
-    let second = word_behind(line, first);
+    let first = behind(line, 0, b' ');
+    let second = behind(line, first, b' ');
     let train = one_byte(line, first);
     let kind = byte_at(line, 0);
     match kind {
@@ -278,7 +224,7 @@ fn answer(line: &[u8]) {
             Way::Calls(one_byte(line, second)),
             train,
             line,
-            word_behind(line, second),
+            behind(line, second, b' '),
         ),
         b's' => start_at(Way::Splits, train, line, second),
         _ => (),
