@@ -7,7 +7,7 @@ use borrow.Author.Tests.{ne-eqb}
 use mathlib.Core.Bool.{Bool, true, false}
 use mathlib.Core.List.{List}
 use mathlib.Core.Logic.{_⊎_, inl, inr}
-use mathlib.Core.Path.{_≡_, refl, sym, ap, _∙_}
+use mathlib.Core.Path.{_≡_, refl, sym, ap, subst, _∙_}
 use Rattle.leaf.specs.declared.Refusal.the-variants.{Number}
 use Rattle.step.specs.declared.Answer.{Answer as Told}
 use Rattle.session.specs.declared.Sample.{Sample}
@@ -153,3 +153,11 @@ module _ (recording : List ℕ) (place : ℕ) (s : Session) where
       let e : k + suc i ≡ suc (k + i) = omega arith in
       let same : place + k + i ≡ place + (k + i) = omega arith in
       rw e (replay.InTurn.one-more (append k u l t i b before r) (rw same at q))
+
+-- the same of a recording that has the same samples there
+pub elsewhere : (a b : List ℕ) (place : ℕ) (s : Session) (k : ℕ) (u : Session) (l : Last)
+    → ((j : ℕ) → j < k → sampleAt a (place + j) ≡ sampleAt b (place + j)) → InTurn b place s k u l → InTurn a place s k u l
+elsewhere a b place s k u l same replay.InTurn.none = replay.InTurn.none
+elsewhere a b place s k u l same (replay.InTurn.one-more {k = i} {before = v} {behind = w} {l = before} {a = told} t q) =
+    replay.InTurn.one-more (elsewhere a b place s i v before (λ j h. same j (omega arith)) t)
+    (subst (λ (x : Sample). SampledAs v x (record { session = w; outcome = Answered told })) (sym (same i (omega arith))) q)

@@ -25,7 +25,7 @@ use Rattle.demands.specs.Replay as replay
 use Rattle.demands.proofs.Answered.{samples-exactly}
 use Rattle.demands.proofs.Computes.{definitions}
 use Rattle.demands.proofs.InTurn as in-turn
-use Rattle.demands.proofs.Replayed.{replays, runs-met, same-length, unrefused-as, two-quotas}
+use Rattle.demands.proofs.Replayed.{replays, runs-met, same-length, unrefused-as, two-quotas, only-due}
 use Rattle.demands.proofs.ReplayLists.{listed, steps-counted, summed}
 
 module _ (recording : List ℕ) (place : ℕ) (s : Session) (quota : ℕ) where
@@ -148,6 +148,7 @@ replay-laws =
       counted = λ recording n place s quota met i. counted recording place s quota n met i;
       ran = λ recording n place s quota met i. ran recording place s quota n met i;
       stopped = λ recording n place s quota m position met e. stopped-as recording place s quota _ (is-as recording place s quota) n m position met e;
+      only-due = only-due;
       two-quotas = two-quotas;
       whole = whole;
     }

@@ -4,8 +4,9 @@ use native.Mathlib.Omega.{arith}
 use mathlib.Core.Bool.{Bool, true, false}
 use mathlib.Core.List.{List}
 use mathlib.Core.Logic.{_⊎_, inl, inr}
-use mathlib.Core.Path.{_≡_, refl, sym, ap, _∙_}
+use mathlib.Core.Path.{_≡_, refl, sym, ap, subst, _∙_}
 use Rattle.leaf.specs.Checks.{orFault}
+use Rattle.session.specs.declared.Sample.{Sample}
 use Rattle.session.specs.declared.Session.{Session}
 use Rattle.session.specs.Session.{insideOf}
 use Rattle.rides.specs.Recording.{goodRecording, RecordingMet, samplesIn}
@@ -15,7 +16,8 @@ use Rattle.rides.specs.declared.replay.Replayed.{Replayed}
 use Rattle.rides.proofs.Recordings.{good-met, met-good}
 use Rattle.laws.specs.Ranges.{Inside}
 use Rattle.laws.proofs.Ranges.{session-ranges}
-use Rattle.demands.specs.Replay.{InTurn, ReplayedAs, ReplaysExactly, joined, TwoQuotas}
+use Rattle.demands.specs.Demand1.{SampledAs, refusalBy}
+use Rattle.demands.specs.Replay.{InTurn, ReplayedAs, ReplaysExactly, AlikeWhereDue, joined, TwoQuotas}
 use Rattle.demands.specs.Replay as replay
 use Rattle.demands.proofs.Answered.{exactly}
 use Rattle.demands.proofs.InTurn as in-turn
@@ -124,3 +126,21 @@ two-quotas recording place s first second e =
     let u = unrefused-as recording place s first a (is recording place s first) e in
     only recording place s (first + second) _
     (both recording place s first second a (u .0) (u .1) (replayOf recording (place + a .ran) (a .session) second) (is recording (place + a .ran) (a .session) second))
+
+-- ---- what is looked at
+
+alike : (a b : List ℕ) (place : ℕ) (s : Session) (quota : ℕ) → AlikeWhereDue a b place quota → (r : Replayed) → ReplayedAs b place s quota r → ReplayedAs a place s quota r
+alike a b place s quota w r (replay.ReplayedAs.refused-14 none) = absurd (none (w .length) (w .second))
+alike a b place s quota w r (replay.ReplayedAs.refused-8 m out) = replay.ReplayedAs.refused-8 (w .first) out
+alike a b place s quota w r (replay.ReplayedAs.unrefused {n = n} {k = k} {behind = u} {l = l} m i due t) =
+    let same : n ≡ w .length = same-length b n (w .length) m (w .second) in
+    let all : k ≡ min quota (w .length - place) = omega (arith, due, same) in
+    replay.ReplayedAs.unrefused (w .first) i all (in-turn.elsewhere a b place s k u l (λ j h. w .samples j (omega (arith, h, all))) t)
+alike a b place s quota w r (replay.ReplayedAs.refused-sample {n = n} {k = k} {m = number} {before = u} {l = l} m i h t q) =
+    let same : n ≡ w .length = same-length b n (w .length) m (w .second) in
+    let less : k < min quota (w .length - place) = omega (arith, h, same) in
+    replay.ReplayedAs.refused-sample (w .first) i less (in-turn.elsewhere a b place s k u l (λ j g. w .samples j (omega (arith, g, less))) t)
+    (subst (λ (x : Sample). SampledAs u x (refusalBy number u)) (sym (w .samples k less)) q)
+
+pub only-due : (a b : List ℕ) (place : ℕ) (s : Session) (quota : ℕ) → AlikeWhereDue a b place quota → replayOf a place s quota ≡ replayOf b place s quota
+only-due a b place s quota w = only a place s quota _ (alike a b place s quota w _ (is b place s quota))

@@ -145,6 +145,15 @@ WholeRide replay = (settings : Settings) (recording : List ℕ) (n : ℕ) (s : S
     → RecordingMet recording n → openSession settings (trainOf recording) ≡ given s → n ≤ quota → wholeRide settings recording ≡ given shown
     → replay recording 0 s quota ≡ asShown 0 (runOf (freshRide s) (samplesOf recording) .session) shown
 
+-- ---- what is looked at
+
+-- two good recordings of as many samples agree on what is due: so many samples from the place on
+pub record AlikeWhereDue (a b : List ℕ) (place quota : ℕ) : Type 0 where
+  pub length : ℕ
+  pub first : RecordingMet a length
+  pub second : RecordingMet b length
+  pub samples : (k : ℕ) → k < min quota (length - place) → sampleAt a (place + k) ≡ sampleAt b (place + k)
+
 -- ---- the statements
 
 abbrev pub ReplaysExactly : Replayer → Type 0
@@ -181,6 +190,9 @@ pub record Replay : Type 0 where
   pub stopped : (recording : List ℕ) (n place : ℕ) (s : Session) (quota m position : ℕ) → RecordingMet recording n
       → replayOf recording place s quota .end ≡ end.RefusedAt m position
       → Stopped recording place (replayOf recording place s quota) (min quota (n - place)) m position
+  -- "The session's train type rules": nothing of a good recording counts but its samples that are due. So its type byte does not (d2), nor a sample
+  -- behind the quota (d5), nor one before the place.
+  pub only-due : (a b : List ℕ) (place : ℕ) (s : Session) (quota : ℕ) → AlikeWhereDue a b place quota → replayOf a place s quota ≡ replayOf b place s quota
   -- 4. Two quotas give what one of their sum gives: session, number run, refusal and position (d6), last answer. Nothing wraps (d7).
   pub two-quotas : TwoQuotas replayOf
   -- 5. A whole quota from place 0 on the opened session is the ride.
