@@ -27,8 +27,8 @@ use Rattle.rides.specs.declared.ride.Turned.{Turned}
 use Rattle.rides.specs.declared.replay.Last.{Last}
 use Rattle.rides.specs.declared.replay.Last.the-variants as last
 use Rattle.rides.specs.declared.replay.End.the-variants as end
-use Rattle.rides.proofs.Runs.{recording-run, ended-run, shows-from, from-suc, ended-shows, ended-turn}
-use Rattle.rides.proofs.Replays.{turned-accepted, turned-refused, Turning, turning, steps-suc}
+use Rattle.rides.proofs.Runs.{turned-accepted, turned-refused, recording-run, ended-run, shows-from, from-suc, ended-shows, ended-turn}
+use Rattle.rides.proofs.Replays.{Turning, turning, steps-suc}
 use Rattle.demands.specs.Replay.{InTurn, acceptedRun, LastAs, answersIn, lastIn, endIn}
 use Rattle.demands.specs.Replay as replay
 use Rattle.demands.proofs.Answered.{samples-exactly}

@@ -11,10 +11,9 @@ use borrow.Author.Tests.{eqb-true, ne-eqb, leb-true, leb-false}
 use Rattle.leaf.specs.Checks.{none-bad}
 use Rattle.session.specs.declared.Sample.{Sample}
 use Rattle.session.specs.declared.Session.{Session}
-use Rattle.session.specs.Session.{refusedBy, carried, stepped, ranOf, sampleOf}
 use Rattle.session.specs.Runs.{accepted}
 use Rattle.rides.specs.Recording.{sampleAt, samplesIn, mostSamples}
-use Rattle.rides.specs.Ride.{freshRide, toldOf, turnOf, turnAt, rideFrom}
+use Rattle.rides.specs.Ride.{freshRide, turnOf, turnAt, rideFrom}
 use Rattle.rides.specs.Replay.{dueFrom, shownNext, stepOf, stepsFrom, laterOf, lastFrom, soFar, ranFrom, replayChecks, unrunBy, replayOf}
 use Rattle.rides.specs.declared.ride.Ride.{Ride}
 use Rattle.rides.specs.declared.ride.Shown.{Shown}
@@ -23,20 +22,9 @@ use Rattle.rides.specs.declared.ride.Turned.{Turned}
 use Rattle.rides.specs.declared.replay.Last.{Last}
 use Rattle.rides.specs.declared.replay.Last.the-variants.{None}
 use Rattle.rides.proofs.Recordings.{good-met}
-use Rattle.rides.proofs.Runs.{from-suc, ended-shows, ended-stays}
+use Rattle.rides.proofs.Runs.{turned-accepted, turned-refused, from-suc, ended-shows, ended-stays}
 
 -- ---- a turn of a ride that goes on
-
--- an accepted sample is answered, a refused one ends the ride
-pub turned-accepted : (s : Session) (x : Sample) → accepted s x ≡ true
-    → turnOf (freshRide s) x ≡ record { ride = freshRide (sampleOf s x .session); shown = Answered (stepped s (carried s x) .answer) }
-unfolding turnOf toldOf sampleOf ranOf
-turned-accepted s x e = rw e
-
-pub turned-refused : (s : Session) (x : Sample) → accepted s x ≡ false
-    → turnOf (freshRide s) x ≡ record { ride = record { session = s; ended = refusedBy s x }; shown = Refused (refusedBy s x) }
-unfolding turnOf toldOf sampleOf ranOf
-turned-refused s x e = rw e
 
 pub fresh-of : (q : Ride) → eqb (q .ended) 0 ≡ true → q ≡ freshRide (q .session)
 fresh-of q e = let z : q .ended ≡ 0 = eqb-true _ _ e in ap (λ (n : ℕ). record { session = q .session; ended = n }) z

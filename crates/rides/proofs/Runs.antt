@@ -21,7 +21,8 @@ use Rattle.session.proofs.Paper.{sample-paper}
 use Rattle.rides.specs.Recording.{sampleAt, samplesFrom, firstSamples}
 use Rattle.rides.specs.Ride.{freshRide, toldOf, turnOf, shownOf, turnShows, turnAt, rideFrom, rideAfter, runOf, shownBy, untilRefused}
 use Rattle.rides.specs.declared.ride.Ride.{Ride}
-use Rattle.rides.specs.declared.ride.Shown.the-variants.{Nothing}
+use Rattle.rides.specs.declared.ride.Shown.the-variants.{Answered, Nothing}
+use Rattle.rides.specs.declared.ride.Shown.the-variants as shown
 use Rattle.rides.specs.declared.ride.Turned.{Turned}
 
 -- ---- a turn
@@ -46,14 +47,16 @@ turn-paper r x = cases (eqb (r .ended) 0) (eqb (refusedBy (r .session) x) 0)
 pub on-paper : (r : Ride) (x : Sample) (t : Turned) → t ≡ turnOf r x → (t ≡ turnOf r x) × (shownOf (t .shown) ≡ turnShows r x)
 on-paper r x t e = (e, rw e (turn-paper r x))
 
--- an accepted sample leads to the session after it, a refused one ends the ride
-turn-accepted : (s : Session) (x : Sample) → accepted s x ≡ true → turnOf (freshRide s) x .ride ≡ freshRide (sampleOf s x .session)
+-- an accepted sample is answered and leads to the session after it, a refused one ends the ride
+pub turned-accepted : (s : Session) (x : Sample) → accepted s x ≡ true
+    → turnOf (freshRide s) x ≡ record { ride = freshRide (sampleOf s x .session); shown = Answered (stepped s (carried s x) .answer) }
 unfolding turnOf toldOf sampleOf ranOf
-turn-accepted s x e = rw e
+turned-accepted s x e = rw e
 
-turn-refused : (s : Session) (x : Sample) → accepted s x ≡ false → turnOf (freshRide s) x .ride ≡ record { session = s; ended = refusedBy s x }
+pub turned-refused : (s : Session) (x : Sample) → accepted s x ≡ false
+    → turnOf (freshRide s) x ≡ record { ride = record { session = s; ended = refusedBy s x }; shown = shown.Refused (refusedBy s x) }
 unfolding turnOf toldOf sampleOf ranOf
-turn-refused s x e = rw e
+turned-refused s x e = rw e
 
 answer-accepted : (s : Session) (x : Sample) → accepted s x ≡ true → answerTo s x ≡ given (stepped s (carried s x) .answer)
 unfolding answerTo
@@ -111,7 +114,7 @@ ride-goes s [] h = (refl, refl)
 ride-goes s (x ∷ xs) h =
     let p = and-split (accepted s x) (allAccepted (sampleOf s x .session) xs) h in
     let rest = ride-goes (sampleOf s x .session) xs (p .1) in
-    (rw (turn-accepted s x (p .0)) (rest .0), rw (turn-accepted s x (p .0), sample-paper s x, rest .1))
+    (rw (turned-accepted s x (p .0)) (rest .0), rw (turned-accepted s x (p .0), sample-paper s x, rest .1))
 
 -- a refused sample ends it: its number is shown, the session is as it was, and what follows is not run
 stops-at : (s : Session) (x : Sample) (ys : List Sample) → accepted s x ≡ false
@@ -119,7 +122,7 @@ stops-at : (s : Session) (x : Sample) (ys : List Sample) → accepted s x ≡ fa
 unfolding runOf shownBy turnShows
 stops-at s x ys e =
     let over = ended-run (record { session = s; ended = refusedBy s x }) ys e in
-    (rw (turn-refused s x e) (over .0), rw (turn-refused s x e, answer-refused s x e, over .1))
+    (rw (turned-refused s x e) (over .0), rw (turned-refused s x e, answer-refused s x e, over .1))
 
 -- behind accepted ones, what came before stays
 pub ride-stops : (s : Session) (xs : List Sample) (x : Sample) (ys : List Sample) → allAccepted s xs ≡ true → accepted (after s xs) x ≡ false
@@ -141,10 +144,10 @@ shown-until s (x ∷ xs) = rw (sample-paper s x) (cases (accepted s x) refl (sho
     cases : (t : Bool) → accepted s x ≡ t
         → shownBy (freshRide (sampleOf s x .session)) xs ≡ untilRefused (map outcomeOf (outcomes (sampleOf s x .session) xs))
         → answerTo s x ∷ shownBy (turnOf (freshRide s) x .ride) xs ≡ untilRefused (answerTo s x ∷ map outcomeOf (outcomes (sampleOf s x .session) xs))
-    cases true e rest = rw (turn-accepted s x e, answer-accepted s x e, rest)
+    cases true e rest = rw (turned-accepted s x e, answer-accepted s x e, rest)
     cases false e rest =
         let over = ended-run (record { session = s; ended = refusedBy s x }) xs e in
-        rw (turn-refused s x e, answer-refused s x e, over .1)
+        rw (turned-refused s x e, answer-refused s x e, over .1)
 
 -- ---- as far as answers are the same, so is what is shown
 
