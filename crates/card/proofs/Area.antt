@@ -12,8 +12,9 @@ use borrow.Author.Tests.{eqb-true, eqb-false, eq-eqb, ne-eqb}
 use Rattle.leaf.specs.Choosing.{pick}
 use Rattle.leaf.specs.Bytes.{byte, word}
 use Rattle.card.specs.Card.{lengthOf, rowAt, reminds}
+use Rattle.card.specs.Ranges.{rowOf}
 use Rattle.card.specs.Reading.{kept, functionsFrom, settingsFrom}
-use Rattle.card.specs.Plain.{Within, Vmax, Tick, Bts, Initial, Last, Drop, Functions, X, Y, place, rowOf, RangesMet, BytesMet, Known, LengthOf, HeaderMet}
+use Rattle.card.specs.Plain.{Within, Vmax, Tick, Bts, Initial, Last, Drop, Functions, X, Y, place, RangesMet, BytesMet, Known, LengthOf, HeaderMet}
 use Rattle.card.specs.declared.Kind.{Kind}
 use Rattle.card.proofs.Listed.{from-at}
 

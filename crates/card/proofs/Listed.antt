@@ -10,8 +10,8 @@ use Rattle.leaf.specs.Choosing.{pick, and-split}
 use Rattle.leaf.specs.Numbers.{within}
 use Rattle.leaf.specs.Checks.{Check, orFault, firstBad, numbered, found-stays}
 use Rattle.card.specs.Card.{reminds}
-use Rattle.card.specs.Ranges.{placeOf, functionsTop, rangedIf, settingsChecks}
-use Rattle.card.specs.Plain.{Within, Setting, Vmax, Tick, Bts, Initial, Last, Drop, Functions, X, Y, OfCard, offset, rowOf, SettingMet}
+use Rattle.card.specs.Ranges.{placeOf, rowOf, functionsTop, rangedIf, settingsChecks}
+use Rattle.card.specs.Plain.{Within, Setting, Vmax, Tick, Bts, Initial, Last, Drop, Functions, X, Y, OfCard, offset, SettingMet}
 use Rattle.card.specs.declared.Kind.{Kind}
 use Rattle.card.specs.declared.Settings.{Settings}
 

@@ -1,7 +1,7 @@
 -- Document 01, "The card": what stands where, the functions, and which bytes speak.
 use Prim.Native.Nat.{ℕ, _+_, _≤_, _<_}
 use mathlib.Core.Path.{_≡_}
-use mathlib.Core.List.{List, [], _∷_}
+use mathlib.Core.List.{List}
 use mathlib.Core.Bool.{Bool, _&&_, _||_, not}
 use lib.Dec.{ltb, eqb}
 use Rattle.leaf.specs.Choosing.{pick}
@@ -9,7 +9,6 @@ use Rattle.leaf.specs.Numbers.{within, bitOf}
 use Rattle.leaf.specs.Bytes.{byte}
 use Rattle.card.specs.declared.Kind.{Kind}
 use Rattle.card.specs.declared.Row.{Row}
-use Rattle.card.specs.declared.Settings.{Settings}
 use Rattle.card.specs.declared.Functions.{Functions}
 
 -- ---- the record
@@ -30,11 +29,6 @@ known version = within 1 2 version
 -- "eight rows of four: initial, final, delay, drop": the row that begins at a place
 unfoldable pub rowAt : List ℕ → ℕ → Row
 rowAt area at = record { initial = byte area at; last = byte area (at + 1); delay = byte area (at + 2); drop = byte area (at + 3) }
-
--- "Rows 0..7: conditional clear, stop announcement, preannouncement, caution, before-stop, unprotected crossing, limit, start."
-abbrev pub rowsOf : Settings → List Row
-rowsOf s =
-    s .«conditional_clear» ∷ s .announcement ∷ s .preannouncement ∷ s .caution ∷ s .«before_stop» ∷ s .crossing ∷ s .limit ∷ s .start ∷ []
 
 -- ---- the functions
 

@@ -4,13 +4,13 @@
 use Prim.Native.Nat.{ℕ, _+_, _*_, _/_, _%_, _≤_, _<_}
 use mathlib.Core.Path.{_≡_}
 use mathlib.Core.List.{List}
-use lib.ListN.{length, getD}
+use lib.ListN.{length}
 use Rattle.leaf.specs.Bytes.{byte, word}
 use Rattle.leaf.specs.Answers.{Answer, given, refused, refusedAt}
-use Rattle.card.specs.Card.{baseKind, rowsOf}
+use Rattle.card.specs.Card.{baseKind}
+use Rattle.card.specs.Ranges.{rowOf}
 use Rattle.card.specs.Reading.{settingsOf}
 use Rattle.card.specs.declared.Kind.{Kind}
-use Rattle.card.specs.declared.Row.{Row}
 use Rattle.card.specs.declared.Settings.{Settings}
 
 -- "lo..hi", both ends included
@@ -64,10 +64,6 @@ place kind setting = kind .first + offset setting
 pub record Placed (kind : Kind) : Type 0 where
   pub low : 1 ≤ kind .first
   pub high : kind .first + 39 ≤ 255
-
--- a row of the settings by its number, 0 to 7
-abbrev pub rowOf : Settings → ℕ → Row
-rowOf s row = getD (rowsOf s) row (s .start)
 
 -- the range of each, beside a version: "In a row initial 1..200, final 1..initial, delay any, drop ≥ 1."; "A version 1 card has
 -- functions 0"; with bit 2 off "settings handed in must then have X and Y 0"

@@ -4,11 +4,12 @@ use Prim.Native.Nat.{ℕ, _+_, _%_}
 use mathlib.Core.List.{List, [], _∷_, _++_}
 use mathlib.Core.Bool.{Bool, true}
 use lib.Dec.{leb, eqb}
+use lib.ListN.{getD}
 use Rattle.leaf.specs.Choosing.{pick}
 use Rattle.leaf.specs.Numbers.{within}
 use Rattle.leaf.specs.Checks.{Check, firstBad, allHold}
 use Rattle.leaf.specs.Answers.{Answer, given, refusedAt}
-use Rattle.card.specs.Card.{baseKind, rowsOf, reminds}
+use Rattle.card.specs.Card.{baseKind, reminds}
 use Rattle.card.specs.declared.Kind.{Kind}
 use Rattle.card.specs.declared.Row.{Row}
 use Rattle.card.specs.declared.Settings.{Settings}
@@ -29,7 +30,27 @@ headChecks kind s =
     ∷ (placeOf kind 3, within 1 200 (s .bts))
     ∷ []
 
--- "In a row initial 1..200, final 1..initial, delay any, drop ≥ 1."; "final above initial is the final's fault"
+-- ---- the rows: "one rule stands once and is applied to eight rows" (02 e)
+
+-- "Rows 0..7: conditional clear, stop announcement, preannouncement, caution, before-stop, unprotected crossing, limit, start."
+abbrev pub rowsOf : Settings → List Row
+rowsOf s =
+    s .«conditional_clear»
+    ∷ s .announcement
+    ∷ s .preannouncement
+    ∷ s .caution
+    ∷ s .«before_stop»
+    ∷ s .crossing
+    ∷ s .limit
+    ∷ s .start
+    ∷ []
+
+-- a row by its number, 0 to 7
+abbrev pub rowOf : Settings → ℕ → Row
+rowOf s row = getD (rowsOf s) row (s .start)
+
+-- "In a row initial 1..200, final 1..initial, delay any, drop ≥ 1."; "final above initial is the final's fault". They are looked at in
+-- this order (e1)
 abbrev pub rowChecks : Kind → ℕ → Row → List Check
 rowChecks kind offset row =
     (placeOf kind offset, within 1 200 (row .initial))
@@ -37,10 +58,13 @@ rowChecks kind offset row =
     ∷ (placeOf kind (offset + 3), leb 1 (row .drop))
     ∷ []
 
--- "7–38 eight rows of four": rows one behind the other, the first of them so many bytes behind the first setting
+-- "7–38 eight rows of four": the rule of each row in turn, the first of them so many bytes behind the first setting and the next 4
+-- bytes further, so that they begin at 7, 11, 15 and so on
 abbrev pub rowsChecks : Kind → ℕ → List Row → List Check
 rowsChecks kind offset [] = []
 rowsChecks kind offset (row ∷ rest) = rowChecks kind offset row ++ rowsChecks kind (offset + 4) rest
+
+-- ---- what stands behind the rows
 
 -- "functions (0..15)"; "A version 1 card has functions 0 (writer: else 5 at 39)."
 abbrev pub functionsTop : ℕ → ℕ

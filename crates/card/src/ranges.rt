@@ -8,11 +8,13 @@ use leaf::choose8;
 use leaf::in_range;
 use leaf::or_fault;
 ghost use mathlib.Core.Path.{_≡_};
+ghost use mathlib.Core.Bool.{true};
+ghost use Prim.Native.Nat.{_+_, _*_};
 ghost use Rattle.leaf.specs.Numbers.{within};
 ghost use lib.Dec.{leb};
 ghost use Rattle.leaf.specs.Checks.{orFault, firstBad, allHold};
-ghost use Rattle.card.specs.Card.{baseKind, rowsOf, reminds};
-ghost use Rattle.card.specs.Ranges.{placeOf, rangedIf, functionsTop, rowChecks, headChecks, rowsChecks, tailChecks, settingsFault, settingsInside, checkOf, checkedOf};
+ghost use Rattle.card.specs.Card.{baseKind, reminds};
+ghost use Rattle.card.specs.Ranges.{placeOf, rangedIf, functionsTop, headChecks, rowChecks, rowsOf, rowOf, rowsChecks, tailChecks, settingsFault, settingsInside, checkOf, checkedOf};
 
 // The place so many bytes behind the first setting.
 fn place(kind: Kind, offset: u16) -> u8
@@ -107,17 +109,66 @@ fn y_inside(s: Settings) -> bool
     ranged_if(has_reminder(s.functions), 1, 5000, s.y)
 }
 
-// ---- the first that fails
+// ---- the rows: one rule, and the eight rows that it is applied to
 
-// The one rule of a row, so many bytes behind the first setting.
-fn row_fault(found: u8, kind: Kind, offset: u8, row: Row) -> u8
-    ensures { λ f. ⌜ f ≡ firstBad found (rowChecks kind offset row) ⌝ }
+// How many rows a card has.
+const ROWS: u8 = 8;
+
+// A row by its number.
+fn row_of(s: Settings, i: u8) -> Row
+    ensures { λ r. ⌜ r ≡ rowOf s i ⌝ }
 {
-    let at = offset as u16;
+    match i {
+        0 => s.conditional_clear,
+        1 => s.announcement,
+        2 => s.preannouncement,
+        3 => s.caution,
+        4 => s.before_stop,
+        5 => s.crossing,
+        6 => s.limit,
+        _ => s.start,
+    }
+}
+
+// The rule of row i, which begins 4 + 4i bytes behind the first setting: what was found before, or the row's first fault, or 0.
+fn row_fault(found: u8, kind: Kind, i: u8, row: Row) -> u8
+    ensures { λ f. ⌜ f ≡ firstBad found (rowChecks kind (4 + 4 * i) row) ⌝ }
+{
+    let at = 4 + 4 * (i as u16);
     let f = fault_at(found, kind, at, initial_inside(row));
     let f = fault_at(f, kind, at + 1, last_inside(row));
     fault_at(f, kind, at + 3, drop_inside(row))
 }
+
+// The rule applied to each row.
+fn rows_fault(found: u8, kind: Kind, s: Settings) -> u8
+    ensures { λ f. ⌜ f ≡ firstBad found (rowsChecks kind 4 (rowsOf s)) ⌝ }
+{
+    let mut f = found;
+    let mut i = 0;
+    while i < ROWS {
+        f = row_fault(f, kind, i, row_of(s, i));
+        i += 1;
+    }
+    f
+}
+
+// Does each row meet the rule: what a session asks at each sample, for which no place is kept.
+fn rows_inside(s: Settings) -> bool
+    ensures { λ r. ⌜ r ≡ allHold true (rowsChecks baseKind 4 (rowsOf s)) ⌝ }
+{
+    let mut i = 0;
+    while i < ROWS {
+        let fine = row_fault(0, Kind::BASE, i, row_of(s, i)) == 0;
+        if !fine {
+            return false;
+        }
+        i += 1;
+    }
+    true
+}
+
+// ---- what stands before the rows, and behind them
 
 fn head_fault(kind: Kind, s: Settings) -> u8
     ensures { λ f. ⌜ f ≡ firstBad 0 (headChecks kind s) ⌝ }
@@ -127,46 +178,12 @@ fn head_fault(kind: Kind, s: Settings) -> u8
     fault_at(f, kind, 3, bts_inside(s))
 }
 
-fn rows_fault(found: u8, kind: Kind, s: Settings) -> u8
-    ensures { λ f. ⌜ f ≡ firstBad found (rowsChecks kind 4 (rowsOf s)) ⌝ }
-{
-    let f = row_fault(found, kind, 4, s.conditional_clear);
-    let f = row_fault(f, kind, 8, s.announcement);
-    let f = row_fault(f, kind, 12, s.preannouncement);
-    let f = row_fault(f, kind, 16, s.caution);
-    let f = row_fault(f, kind, 20, s.before_stop);
-    let f = row_fault(f, kind, 24, s.crossing);
-    let f = row_fault(f, kind, 28, s.limit);
-    row_fault(f, kind, 32, s.start)
-}
-
 fn tail_fault(found: u8, kind: Kind, version: u8, s: Settings) -> u8
     ensures { λ f. ⌜ f ≡ firstBad found (tailChecks kind version s) ⌝ }
 {
     let f = fault_at(found, kind, 36, functions_inside(version, s));
     let f = fault_at(f, kind, 37, x_inside(s));
     fault_at(f, kind, 39, y_inside(s))
-}
-
-// ---- whether all hold, without a place: what a session asks at each sample
-
-fn row_inside(sofar: bool, row: Row) -> bool
-    ensures { λ r. ⌜ r ≡ allHold sofar (rowChecks baseKind 0 row) ⌝ }
-{
-    sofar & initial_inside(row) & last_inside(row) & drop_inside(row)
-}
-
-fn rows_inside(sofar: bool, s: Settings) -> bool
-    ensures { λ r. ⌜ r ≡ allHold sofar (rowsChecks baseKind 0 (rowsOf s)) ⌝ }
-{
-    let inside = row_inside(sofar, s.conditional_clear);
-    let inside = row_inside(inside, s.announcement);
-    let inside = row_inside(inside, s.preannouncement);
-    let inside = row_inside(inside, s.caution);
-    let inside = row_inside(inside, s.before_stop);
-    let inside = row_inside(inside, s.crossing);
-    let inside = row_inside(inside, s.limit);
-    row_inside(inside, s.start)
 }
 
 impl Kind {
@@ -195,8 +212,11 @@ impl Kind {
     pub fn is_in_range(self, version: u8, s: Settings) -> bool
         ensures { λ r. ⌜ r ≡ settingsInside self version s ⌝ }
     {
+        let rows = rows_inside(s);
+        if !rows {
+            return false;
+        }
         let head = vmax_inside(self, s) & tick_inside(s) & bts_inside(s);
-        let rows = rows_inside(head, s);
-        rows & functions_inside(version, s) & x_inside(s) & y_inside(s)
+        head & functions_inside(version, s) & x_inside(s) & y_inside(s)
     }
 }

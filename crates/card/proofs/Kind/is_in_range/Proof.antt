@@ -1,42 +1,22 @@
 use borrow.Author.Needs.{needs}
+use borrow.Author.Tests.{not-true, not-false}
+use mathlib.Core.Path.{sym, _∙_}
+use mathlib.Core.Bool.{true, false}
+use Rattle.card.proofs.Rows.{inside-by}
 use Rattle.card.proofs.Kind.is_in_range.Statement.{statement}
 use Rattle.card.proofs.Kind.is_in_range.Tie as tie
-use Rattle.card.specs.Ranges.{settingsInside}
-
-vmax-inside-requires : tie.Need-vmax-inside-requires
-vmax-inside-requires c κs = search needs
-
-tick-inside-requires : tie.Need-tick-inside-requires
-tick-inside-requires c κs = search needs
-
-bts-inside-requires : tie.Need-bts-inside-requires
-bts-inside-requires c κs = search needs
-
-rows-inside-requires : tie.Need-rows-inside-requires
-rows-inside-requires c κs = search needs
-
-functions-inside-requires : tie.Need-functions-inside-requires
-functions-inside-requires c κs = search needs
-
-x-inside-requires : tie.Need-x-inside-requires
-x-inside-requires c κs = search needs
-
-y-inside-requires : tie.Need-y-inside-requires
-y-inside-requires c κs = search needs
 
 returns : tie.Need-returns
-unfolding settingsInside
-returns c = cc
+returns c = sym (inside-by _ _ (c .before .before .args .s) false (sym (c .before .rows-inside .ensures) ∙ not-true _ (c .if1 .taken)))
+
+returns-2 : tie.Need-returns-2
+returns-2 c =
+    let start = c .before .before .before .before .before .before in
+    rw (c .y-inside .ensures, c .before .x-inside .ensures, c .before .before .functions-inside .ensures, c .before .before .before .bts-inside .ensures, c .before .before .before .before .tick-inside .ensures, c .before .before .before .before .before .vmax-inside .ensures)
+    (sym (inside-by _ _ (start .before .before .args .s) true (sym (start .before .rows-inside .ensures) ∙ not-false _ (start .if1 .left))))
 
 pub is-in-range-spec : {M : Type 1} → statement M
 is-in-range-spec =
     tie.close
-    (tie.spec
-    vmax-inside-requires
-    tick-inside-requires
-    bts-inside-requires
-    rows-inside-requires
-    functions-inside-requires
-    x-inside-requires
-    y-inside-requires
-    returns)
+    (tie.spec (λ c κs. search needs) returns (λ c κs. search needs) (λ c κs. search needs) (λ c κs. search needs)
+    (λ c κs. search needs) (λ c κs. search needs) (λ c κs. search needs) returns-2)

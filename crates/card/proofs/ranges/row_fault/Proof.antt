@@ -8,5 +8,5 @@ returns c = simp (c .fault-at3 .ensures, c .before .drop-inside .ensures, c .bef
 pub row-fault-spec : {M : Type 1} → statement M
 row-fault-spec =
     tie.close
-    (tie.spec (λ c κs. search needs) (λ c κs. search needs) (λ c. search needs) (λ c κs. search needs) (λ c κs. search needs)
+    (tie.spec (λ c. search needs) (λ c. search needs) (λ c κs. search needs) (λ c κs. search needs) (λ c. search needs) (λ c κs. search needs) (λ c κs. search needs)
     (λ c. search needs) (λ c κs. search needs) (λ c κs. search needs) returns)

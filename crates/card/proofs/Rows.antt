@@ -1,0 +1,81 @@
+-- The rows of a card: one rule, applied to eight rows.
+use Prim.Native.Nat.{ℕ, suc, _+_, _*_, _<_}
+use native.Mathlib.Omega.{arith}
+use native.Mathlib.Numerals.{add-one}
+use mathlib.Core.Path.{_≡_, refl, ap, _∙_}
+use mathlib.Core.Bool.{Bool, true, false}
+use mathlib.Core.List.{List, [], _∷_, _++_}
+use lib.Dec.{T, eqb}
+use lib.ListN.{length, drop, getD}
+use lib.Seq.{drop-cons}
+use borrow.Author.Tests.{ne-eqb}
+use Rattle.leaf.specs.Choosing.{pick}
+use Rattle.leaf.specs.Checks.{Check, firstBad, numbered, allHold, all-hold}
+use Rattle.card.specs.Card.{baseKind}
+use Rattle.card.specs.Ranges.{placeOf, headChecks, rowChecks, rowsOf, rowOf, rowsChecks, tailChecks, settingsInside}
+use Rattle.card.specs.declared.Kind.{Kind}
+use Rattle.card.specs.declared.Row.{Row}
+use Rattle.card.specs.declared.Settings.{Settings}
+
+-- row i begins at place 7 + 4i; its final's is one more and its drop's three more
+pub row-places : (i : ℕ) → i < 8
+    → (placeOf baseKind (4 + 4 * i) ≡ 7 + 4 * i) × (placeOf baseKind (4 + 4 * i + 1) ≡ 7 + 4 * i + 1) × (placeOf baseKind (4 + 4 * i + 3) ≡ 7 + 4 * i + 3)
+row-places i here = (omega arith, omega arith, omega arith)
+
+-- ---- row by row, as the code goes
+
+-- the checks from row i on are the rule of row i, and the checks from the next row on
+pub rows-from : (kind : Kind) (s : Settings) (i : ℕ) → i < 8
+    → rowsChecks kind (4 + 4 * i) (drop i (rowsOf s)) ≡ rowChecks kind (4 + 4 * i) (rowOf s i) ++ rowsChecks kind (4 + 4 * (i + 1)) (drop (i + 1) (rowsOf s))
+rows-from kind s i here = of-any (rowsOf s) here
+  where
+    of-any : (rows : List Row) → i < length rows
+        → rowsChecks kind (4 + 4 * i) (drop i rows) ≡ rowChecks kind (4 + 4 * i) (getD rows i (s .start)) ++ rowsChecks kind (4 + 4 * (i + 1)) (drop (i + 1) rows)
+    of-any rows here = let next : 4 + 4 * suc i ≡ 4 + 4 * i + 4 = omega arith in rw (drop-cons rows i (s .start) here, add-one i, next)
+
+-- ---- whether all hold
+
+none-hold : (cs : List Check) → allHold false cs ≡ false
+none-hold [] = refl
+none-hold (c ∷ rest) = none-hold rest
+
+-- no place of a row is 0
+row-numbered : (i : ℕ) → i < 8 → (row : Row) → T (numbered (rowChecks baseKind (4 + 4 * i) row))
+row-numbered i here row =
+    let p = row-places i here in
+    rw (ne-eqb (placeOf baseKind (4 + 4 * i)) 0 (λ e. omega (arith, p .0)), ne-eqb (placeOf baseKind (4 + 4 * i + 1)) 0 (λ e. omega (arith, p .1)), ne-eqb (placeOf baseKind (4 + 4 * i + 3)) 0 (λ e. omega (arith, p .2))) tt
+
+-- whether all hold from row i on, by whether the rule finds no fault in row i
+pub rows-hold : (s : Settings) (i : ℕ) → i < 8 → (t : Bool) → eqb (firstBad 0 (rowChecks baseKind (4 + 4 * i) (rowOf s i))) 0 ≡ t
+    → allHold true (rowsChecks baseKind (4 + 4 * i) (drop i (rowsOf s))) ≡ allHold t (rowsChecks baseKind (4 + 4 * (i + 1)) (drop (i + 1) (rowsOf s)))
+rows-hold s i here t e =
+    let this = all-hold (rowChecks baseKind (4 + 4 * i) (rowOf s i)) (row-numbered i here (rowOf s i)) ∙ e in
+    ap (allHold true) (rows-from baseKind s i here) ∙ ap (λ b. allHold b (rowsChecks baseKind (4 + 4 * (i + 1)) (drop (i + 1) (rowsOf s)))) this
+
+pub rows-out : (s : Settings) (i : ℕ) → i < 8 → eqb (firstBad 0 (rowChecks baseKind (4 + 4 * i) (rowOf s i))) 0 ≡ false
+    → allHold true (rowsChecks baseKind (4 + 4 * i) (drop i (rowsOf s))) ≡ false
+rows-out s i here e = rows-hold s i here false e ∙ none-hold (rowsChecks baseKind (4 + 4 * (i + 1)) (drop (i + 1) (rowsOf s)))
+
+-- what was asked before is asked besides
+besides : (b : Bool) (cs : List Check) → allHold b cs ≡ pick (allHold true cs) b false
+besides true cs = cases (allHold true cs)
+  where
+    cases : (t : Bool) → t ≡ pick t true false
+    cases true = refl
+    cases false = refl
+besides false cs = none-hold cs ∙ cases (allHold true cs)
+  where
+    cases : (t : Bool) → false ≡ pick t false false
+    cases true = refl
+    cases false = refl
+
+-- whether all settings are in range, by whether the rows are: then what stands before them and behind them decides
+pub inside-by : (kind : Kind) (v : ℕ) (s : Settings) (t : Bool) → allHold true (rowsChecks baseKind 4 (rowsOf s)) ≡ t
+    → settingsInside kind v s ≡ pick t (allHold true (headChecks kind s ++ tailChecks kind v s)) false
+unfolding settingsInside
+inside-by kind v s t e =
+    ap (λ b. allHold b (tailChecks kind v s)) (besides (allHold true (headChecks kind s)) (rowsChecks kind 4 (rowsOf s)) ∙ ap (λ b. pick b (allHold true (headChecks kind s)) false) e) ∙ cases t
+  where
+    cases : (t : Bool) → allHold (pick t (allHold true (headChecks kind s)) false) (tailChecks kind v s) ≡ pick t (allHold true (headChecks kind s ++ tailChecks kind v s)) false
+    cases true = refl
+    cases false = refl
