@@ -1,13 +1,13 @@
 -- Versions and their lengths; and each setting of an area is in range exactly when its byte or bytes are.
-use Prim.Native.Nat.{ℕ, _/_, _%_, _≤_, _<_}
+use Prim.Native.Nat.{ℕ, zero, suc, _+_, _*_, _/_, _%_, _≤_, _<_}
 use native.Mathlib.Omega.{arith}
-use native.Mathlib.Nat.{add-assoc}
+use native.Mathlib.Nat.{add-assoc, add-zero}
 use mathlib.Core.Path.{_≡_, refl}
 use mathlib.Core.Bool.{Bool, true, false}
-use mathlib.Core.List.{List}
+use mathlib.Core.List.{List, [], _∷_}
 use mathlib.Core.Logic.{_⊎_, ⊎-elim, inl, inr}
 use lib.Dec.{eqb, lit≤}
-use lib.ListN.{length}
+use lib.ListN.{length, getD}
 use borrow.Author.Tests.{eqb-true, eqb-false, eq-eqb, ne-eqb}
 use Rattle.leaf.specs.Choosing.{pick}
 use Rattle.leaf.specs.Bytes.{byte, word}
@@ -16,7 +16,7 @@ use Rattle.card.specs.Ranges.{rowOf}
 use Rattle.card.specs.Reading.{kept, functionsFrom, settingsFrom}
 use Rattle.card.specs.Plain.{Within, Vmax, Tick, Bts, Initial, Last, Drop, Functions, X, Y, place, RangesMet, BytesMet, Known, LengthOf, HeaderMet}
 use Rattle.card.specs.declared.Kind.{Kind}
-use Rattle.card.proofs.Listed.{from-at}
+use Rattle.card.specs.declared.Row.{Row}
 
 -- ---- versions and their lengths
 
@@ -65,12 +65,21 @@ module _ (kind : Kind) (v : ℕ) (area : List ℕ) where
   unfolding functionsFrom
   functions-2 e = rw e
 
+  -- rows of the area one behind the other, the first so many bytes behind the first setting
+  abbrev rowsAt : ℕ → ℕ → List Row
+  rowsAt offset zero = []
+  rowsAt offset (suc n) = rowAt area (kind .first + offset) ∷ rowsAt (offset + 4) n
+
+  -- the i-th of them begins 4i bytes further
+  nth : (offset n i : ℕ) (none : Row) → i < n → getD (rowsAt offset n) i none ≡ rowAt area (kind .first + (offset + 4 * i))
+  nth offset zero i none here = absurd (omega arith)
+  nth offset (suc n) zero none here = rw add-zero
+  nth offset (suc n) (suc i) none here = let e : offset + 4 * suc i ≡ offset + 4 + 4 * i = omega arith in rw e (nth (offset + 4) n i none (omega arith))
+
   -- a row of them is the one that begins at its place
   row-at : (row : ℕ) → row < 8 → rowOf (settingsFrom kind v area) row ≡ rowAt area (place kind (Initial row))
   unfolding settingsFrom
-  row-at row of =
-      from-at (λ k. rowOf (settingsFrom kind v area) k ≡ rowAt area (place kind (Initial k))) 0 8
-      (refl, (refl, (refl, (refl, (refl, (refl, (refl, (refl, tt)))))))) row (omega arith) of
+  row-at row of = nth 4 8 row (settingsFrom kind v area .start) of
 
   reminder : Known v → BytesMet kind v area → functionsFrom kind v area / 4 % 2 ≡ 1
       → Within 2 6000 (word area (place kind X)) × Within 1 5000 (word area (place kind Y))

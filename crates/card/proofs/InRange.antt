@@ -42,7 +42,7 @@ first-one a b f g = cases (ltb a b) refl (ltb b a) refl
 -- no fault is found where every setting is in range
 pub met-fault : (kind : Kind) (v : ℕ) (s : Settings) → RangesMet kind v s → settingsFault kind v s ≡ 0
 unfolding settingsFault
-met-fault kind v s m = fine-none (settingsChecks kind v s) (all-map (met-test kind v s) settings (every (SettingMet kind v s) m))
+met-fault kind v s m = fine-none (settingsChecks kind v s) (all-map (met-test kind v s) (settings s) (every (SettingMet kind v s) s m))
 
 module _ (kind : Kind) (placed : Placed kind) (v : ℕ) (s : Settings) where
   in-byte : (setting : Setting) → OfCard setting → placeOf kind (offset setting) ≡ place kind setting
@@ -50,19 +50,19 @@ module _ (kind : Kind) (placed : Placed kind) (v : ℕ) (s : Settings) where
 
   no-zero : T (numbered (settingsChecks kind v s))
   no-zero =
-      all-numbered (placeOf kind) offset (test kind v s) settings
-      (every (λ setting. placeOf kind (offset setting) ≡ 0 → ⊥) (λ setting of zero. omega (arith, in-byte setting of, placed .low)))
+      all-numbered (placeOf kind) offset (test kind v s) (settings s)
+      (every (λ setting. placeOf kind (offset setting) ≡ 0 → ⊥) s (λ setting of zero. omega (arith, in-byte setting of, placed .low)))
 
   -- every setting is in range where no fault is found
   pub fault-met : settingsFault kind v s ≡ 0 → RangesMet kind v s
   unfolding settingsFault
-  fault-met h = each (SettingMet kind v s) (all-map (test-met kind v s) settings (none-bad 0 (settingsChecks kind v s) no-zero h .1))
+  fault-met h = each (SettingMet kind v s) s (all-map (test-met kind v s) (settings s) (none-bad 0 (settingsChecks kind v s) no-zero h .1))
 
   -- a fault that is found is the first
   pub fault-out : (settingsFault kind v s ≡ 0 → ⊥) → FirstOut kind v s (settingsFault kind v s)
   unfolding settingsFault
   fault-out found =
-      let f = first (placeOf kind) offset (test kind v s) OfCard settings (settingsFault kind v s) (every OfCard (λ setting of. of)) (in-order kind v s) no-zero refl found in
+      let f = first (placeOf kind) offset (test kind v s) OfCard (settings s) (settingsFault kind v s) (every OfCard s (λ setting of. of)) (in-order kind v s) no-zero refl found in
       let stands : place kind (f .the) ≡ settingsFault kind v s = sym (in-byte (f .the) (f .one)) ∙ f .stands in
       record {
         setting = f .the;
@@ -70,7 +70,7 @@ module _ (kind : Kind) (placed : Placed kind) (v : ℕ) (s : Settings) where
         stands = stands;
         out = λ m. let z : _≡_ {A = ℕ} 0 1 = cc (met-test kind v s (f .the) m, f .fails) in omega arith;
         earlier = λ other of low.
-            test-met kind v s other (each (λ a. offset a < offset (f .the) → test kind v s a ≡ true) (f .lower) other of (omega (arith, stands)));
+            test-met kind v s other (each (λ a. offset a < offset (f .the) → test kind v s a ≡ true) s (f .lower) other of (omega (arith, stands)));
       }
 
   -- and the first setting out of range is found

@@ -4,15 +4,18 @@ use native.Mathlib.Omega.{arith}
 use mathlib.Core.Path.{_≡_, refl, sym, _∙_}
 use mathlib.Core.Bool.{Bool, true, false, _&&_}
 use mathlib.Core.List.{List, [], _∷_}
+use mathlib.Core.Logic.{_↔_}
 use lib.Dec.{T, leb, ltb, eqb}
+use lib.ListN.{length}
 use borrow.Author.Tests.{le-leb, leb-true, ltb-true, eqb-true, eqb-false, eq-eqb, ne-eqb}
 use Rattle.leaf.specs.Choosing.{pick, and-split}
 use Rattle.leaf.specs.Numbers.{within}
 use Rattle.leaf.specs.Checks.{Check, orFault, firstBad, numbered, found-stays}
 use Rattle.card.specs.Card.{reminds}
-use Rattle.card.specs.Ranges.{placeOf, rowOf, functionsTop, rangedIf, settingsChecks}
+use Rattle.card.specs.Ranges.{placeOf, rowsOf, rowOf, functionsTop, rangedIf, settingsChecks}
 use Rattle.card.specs.Plain.{Within, Setting, Vmax, Tick, Bts, Initial, Last, Drop, Functions, X, Y, OfCard, offset, SettingMet}
 use Rattle.card.specs.declared.Kind.{Kind}
+use Rattle.card.specs.declared.Row.{Row}
 use Rattle.card.specs.declared.Settings.{Settings}
 
 -- ---- all of a list
@@ -25,6 +28,14 @@ pub all-map : {A : Type 0} {P Q : A → Type 0} → ((a : A) → P a → Q a) �
 all-map f [] h = tt
 all-map f (a ∷ rest) h = (f a (h .0), all-map f rest (h .1))
 
+-- a number is this one, or it is another
+this-or-later : (P : ℕ → Type 0) (k i : ℕ) → P k → ((k ≡ i → ⊥) → P i) → P i
+this-or-later P k i this later = cases (eqb k i) refl
+  where
+    cases : (t : Bool) → eqb k i ≡ t → P i
+    cases true e = rw (← eqb-true k i e) this
+    cases false e = later (eqb-false k i e)
+
 -- what holds of n numbers from one on holds of each
 abbrev pub From : (ℕ → Type 0) → ℕ → ℕ → Type 0
 From P k zero = Unit
@@ -32,11 +43,7 @@ From P k (suc n) = P k × From P (k + 1) n
 
 pub from-at : (P : ℕ → Type 0) (k n : ℕ) → From P k n → (i : ℕ) → k ≤ i → i < k + n → P i
 from-at P k zero h i low high = absurd (omega arith)
-from-at P k (suc n) h i low high = cases (eqb k i) refl (λ apart. from-at P (k + 1) n (h .1) i (omega arith) (omega arith))
-  where
-    cases : (t : Bool) → eqb k i ≡ t → ((k ≡ i → ⊥) → P i) → P i
-    cases true e r = rw (← eqb-true k i e) (h .0)
-    cases false e r = r (eqb-false k i e)
+from-at P k (suc n) h i low high = this-or-later P k i (h .0) (λ apart. from-at P (k + 1) n (h .1) i (omega arith) (omega arith))
 
 -- ---- things that have an offset and a test each
 
@@ -99,45 +106,57 @@ module _ {A : Type 0} (number : ℕ → ℕ) (offsetOf : A → ℕ) (test : A �
 
 -- ---- the settings
 
--- rows from a number on, as many as n, and what comes behind them
-abbrev ofRows : ℕ → ℕ → List Setting → List Setting
-ofRows row zero rest = rest
-ofRows row (suc n) rest = Initial row ∷ Last row ∷ Drop row ∷ ofRows (row + 1) n rest
+-- those of rows, numbered from one on, and what comes behind them
+abbrev pub ofRows : ℕ → List Row → List Setting → List Setting
+ofRows row [] rest = rest
+ofRows row (_ ∷ rows) rest = Initial row ∷ Last row ∷ Drop row ∷ ofRows (row + 1) rows rest
 
-abbrev pub settings : List Setting
-settings = Vmax ∷ Tick ∷ Bts ∷ ofRows 0 8 (Functions ∷ X ∷ Y ∷ [])
+abbrev behind : List Setting
+behind = Functions ∷ X ∷ Y ∷ []
 
--- what holds of the whole list holds of each setting that a card has, and the other way round
+abbrev pub settings : Settings → List Setting
+settings s = Vmax ∷ Tick ∷ Bts ∷ ofRows 0 (rowsOf s) behind
+
 module _ (P : Setting → Type 0) where
-  behind : (row n : ℕ) (rest : List Setting) → All P (ofRows row n rest) → All P rest
-  behind row zero rest h = h
-  behind row (suc n) rest h = behind (row + 1) n rest (h .1 .1 .1)
-
-  abbrev OfRow : ℕ → Type 0
+  abbrev pub OfRow : ℕ → Type 0
   OfRow row = P (Initial row) × P (Last row) × P (Drop row)
 
-  among : (row n : ℕ) (rest : List Setting) → All P (ofRows row n rest) → From OfRow row n
-  among row zero rest h = tt
-  among row (suc n) rest h = ((h .0, h .1 .0, h .1 .1 .0), among (row + 1) n rest (h .1 .1 .1))
+  -- both ways by one induction over the list of rows: what holds of the settings of rows numbered from one on, and of those behind them,
+  -- holds of each of these rows by its number, and of those behind them
+  pub by-row : (first : ℕ) (rows : List Row) (rest : List Setting)
+      → All P (ofRows first rows rest) ↔ (((row : ℕ) → first ≤ row → row < first + length rows → OfRow row) × All P rest)
+  by-row first [] rest = (λ h. (λ row low high. absurd (omega arith), h), λ h. h .1)
+  by-row first (_ ∷ rows) rest =
+      let later = by-row (first + 1) rows rest in (
+        λ h.
+            let l = later .0 (h .1 .1 .1) in
+            (λ row low high. this-or-later OfRow first row (h .0, h .1 .0, h .1 .1 .0) (λ apart. l .0 row (omega arith) (omega arith)), l .1),
+        λ h.
+            let this = h .0 first (omega arith) (omega arith) in
+            (this .0, (this .1, (this .2, later .1 (λ row low high. h .0 row (omega arith) (omega arith), h .1)))),
+      )
 
-  pub each : All P settings → (setting : Setting) → OfCard setting → P setting
-  each h Vmax of = h .0
-  each h Tick of = h .1 .0
-  each h Bts of = h .1 .1 .0
-  each h (Initial row) of = from-at OfRow 0 8 (among 0 8 (Functions ∷ X ∷ Y ∷ []) (h .1 .1 .1)) row (omega arith) of .0
-  each h (Last row) of = from-at OfRow 0 8 (among 0 8 (Functions ∷ X ∷ Y ∷ []) (h .1 .1 .1)) row (omega arith) of .1
-  each h (Drop row) of = from-at OfRow 0 8 (among 0 8 (Functions ∷ X ∷ Y ∷ []) (h .1 .1 .1)) row (omega arith) of .2
-  each h Functions of = behind 0 8 (Functions ∷ X ∷ Y ∷ []) (h .1 .1 .1) .0
-  each h X of = behind 0 8 (Functions ∷ X ∷ Y ∷ []) (h .1 .1 .1) .1 .0
-  each h Y of = behind 0 8 (Functions ∷ X ∷ Y ∷ []) (h .1 .1 .1) .1 .1 .0
+  -- what holds of the whole list holds of each setting that a card has, and the other way round
+  module _ (s : Settings) where
+    in-rows : All P (settings s) → ((row : ℕ) → row < 8 → OfRow row) × All P behind
+    in-rows h = let r = by-row 0 (rowsOf s) behind .0 (h .1 .1 .1) in (λ row of. r .0 row (omega arith) of, r .1)
 
-  rows : ((setting : Setting) → OfCard setting → P setting) → (row n : ℕ) (rest : List Setting) → row + n ≤ 8 → All P rest → All P (ofRows row n rest)
-  rows h row zero rest high r = r
-  rows h row (suc n) rest high r =
-      (h (Initial row) (omega arith), (h (Last row) (omega arith), (h (Drop row) (omega arith), rows h (row + 1) n rest (omega arith) r)))
+    pub each : All P (settings s) → (setting : Setting) → OfCard setting → P setting
+    each h Vmax of = h .0
+    each h Tick of = h .1 .0
+    each h Bts of = h .1 .1 .0
+    each h (Initial row) of = in-rows h .0 row of .0
+    each h (Last row) of = in-rows h .0 row of .1
+    each h (Drop row) of = in-rows h .0 row of .2
+    each h Functions of = in-rows h .1 .0
+    each h X of = in-rows h .1 .1 .0
+    each h Y of = in-rows h .1 .1 .1 .0
 
-  pub every : ((setting : Setting) → OfCard setting → P setting) → All P settings
-  every h = (h Vmax tt, (h Tick tt, (h Bts tt, rows h 0 8 (Functions ∷ X ∷ Y ∷ []) (omega arith) (h Functions tt, (h X tt, (h Y tt, tt))))))
+    pub every : ((setting : Setting) → OfCard setting → P setting) → All P (settings s)
+    every h =
+        let rows = by-row 0 (rowsOf s) behind .1
+        (λ row low of. (h (Initial row) of, h (Last row) of, h (Drop row) of), (h Functions tt, (h X tt, (h Y tt, tt)))) in
+        (h Vmax tt, (h Tick tt, (h Bts tt, rows)))
 
 -- ---- the test of each, on a card of a kind
 
@@ -153,10 +172,10 @@ test kind v s X = rangedIf (reminds (s .functions)) 2 6000 (s .x)
 test kind v s Y = rangedIf (reminds (s .functions)) 1 5000 (s .y)
 
 -- the definition's list of checks is that of the settings
-pub listed : (kind : Kind) (v : ℕ) (s : Settings) → settingsChecks kind v s ≡ checksFor (placeOf kind) offset (test kind v s) settings
+pub listed : (kind : Kind) (v : ℕ) (s : Settings) → settingsChecks kind v s ≡ checksFor (placeOf kind) offset (test kind v s) (settings s)
 listed kind v s = refl
 
-pub in-order : (kind : Kind) (v : ℕ) (s : Settings) → ascending (placeOf kind) offset (test kind v s) settings ≡ true
+pub in-order : (kind : Kind) (v : ℕ) (s : Settings) → ascending (placeOf kind) offset (test kind v s) (settings s) ≡ true
 in-order kind v s = refl
 
 -- a range
