@@ -1,26 +1,61 @@
 -- The rows of a card: one rule, applied to eight rows.
-use Prim.Native.Nat.{ℕ, suc, _+_, _*_, _<_}
+use Prim.Native.Nat.{ℕ, zero, suc, _+_, _*_, _≤_, _<_}
 use native.Mathlib.Omega.{arith}
+use native.Mathlib.Nat.{add-zero}
 use native.Mathlib.Numerals.{add-one}
 use mathlib.Core.Path.{_≡_, refl, ap, _∙_}
 use mathlib.Core.Bool.{Bool, true, false}
 use mathlib.Core.List.{List, [], _∷_, _++_}
+use mathlib.Core.Logic.{_↔_}
 use lib.Dec.{T, eqb}
-use lib.ListN.{length, drop, getD}
+use lib.ListN.{length, take, drop, getD}
 use lib.Seq.{drop-cons}
 use borrow.Author.Tests.{ne-eqb}
 use Rattle.leaf.specs.Choosing.{pick}
-use Rattle.leaf.specs.Checks.{Check, firstBad, numbered, allHold, all-hold}
+use Rattle.leaf.specs.Checks.{Check, firstBad, Fine, numbered, allHold, all-hold}
 use Rattle.card.specs.Card.{baseKind}
-use Rattle.card.specs.Ranges.{placeOf, headChecks, rowChecks, rowsOf, rowOf, rowsChecks, tailChecks, settingsInside}
+use Rattle.card.specs.Ranges.{placeOf, headChecks, rowChecks, rowsOf, rowOf, rowsChecks, tailChecks, settingsInside, checksOf}
+use Rattle.card.specs.Plain.{Within, SettingMet}
 use Rattle.card.specs.declared.Kind.{Kind}
 use Rattle.card.specs.declared.Row.{Row}
 use Rattle.card.specs.declared.Settings.{Settings}
+use Rattle.card.proofs.Listed.{all-map, ofRows, by-row, test-met, met-test}
 
--- row i begins at place 7 + 4i; its final's is one more and its drop's three more
+-- ---- "one rule stands once and is applied to eight rows" (02 e)
+
+-- there are eight rows; of each three checks, between three and three others
+pub eight-rows : (v : ℕ) (s : Settings) → (length (rowsOf s) ≡ 8) × (length (checksOf v s) ≡ 3 + 3 * 8 + 3)
+eight-rows v s = (refl, refl)
+
+-- the three checks of the i-th of rows one behind the other are the one rule of that row
+row-part : (kind : Kind) (offset : ℕ) (rows : List Row) (none : Row) (rest : List Check) (i : ℕ) → i < length rows
+    → take 3 (drop (3 * i) (rowsChecks kind offset rows ++ rest)) ≡ rowChecks kind (offset + 4 * i) (getD rows i none)
+row-part kind offset [] none rest i here = absurd (omega arith)
+row-part kind offset (row ∷ rows) none rest zero here = rw add-zero
+row-part kind offset (row ∷ rows) none rest (suc i) here =
+    let three : 3 * suc i ≡ suc (suc (suc (3 * i))) = omega arith in
+    let four : offset + 4 * suc i ≡ offset + 4 + 4 * i = omega arith in
+    rw (three, four) (row-part kind (offset + 4) rows none rest i (omega arith))
+
+-- the checks of row i, of all that the check of settings goes by, are the one rule of the i-th row
+pub row-rule : (v : ℕ) (s : Settings) (i : ℕ) → i < 8 → take 3 (drop (3 + 3 * i) (checksOf v s)) ≡ rowChecks baseKind (4 + 4 * i) (rowOf s i)
+row-rule v s i here =
+    let three : 3 + 3 * i ≡ suc (suc (suc (3 * i))) = omega arith in
+    rw three (row-part baseKind 4 (rowsOf s) (s .start) (tailChecks baseKind v s) i here)
+
+-- at place 7 + 4i; its final's is one more and its drop's three more
 pub row-places : (i : ℕ) → i < 8
     → (placeOf baseKind (4 + 4 * i) ≡ 7 + 4 * i) × (placeOf baseKind (4 + 4 * i + 1) ≡ 7 + 4 * i + 1) × (placeOf baseKind (4 + 4 * i + 3) ≡ 7 + 4 * i + 3)
 row-places i here = (omega arith, omega arith, omega arith)
+
+-- all row checks hold exactly when every row is as the rule says, in plain facts
+pub rows-met : (kind : Kind) (s : Settings)
+    → Fine (rowsChecks kind 4 (rowsOf s)) ↔ ((i : ℕ) → i < 8 → Within 1 200 (rowOf s i .initial) × Within 1 (rowOf s i .initial) (rowOf s i .last) × (1 ≤ rowOf s i .drop))
+rows-met kind s =
+    let both = by-row (SettingMet kind 2 s) 0 (rowsOf s) [] in (
+      λ f i here. both .0 (all-map (test-met kind 2 s) (ofRows 0 (rowsOf s) []) f) .0 i (omega arith) here,
+      λ m. all-map (met-test kind 2 s) (ofRows 0 (rowsOf s) []) (both .1 (λ i low here. m i here, tt)),
+    )
 
 -- ---- row by row, as the code goes
 
