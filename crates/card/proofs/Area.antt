@@ -77,7 +77,7 @@ module _ (kind : Kind) (v : ℕ) (area : List ℕ) where
   nth offset (suc n) (suc i) none here = let e : offset + 4 * suc i ≡ offset + 4 + 4 * i = omega arith in rw e (nth (offset + 4) n i none (omega arith))
 
   -- a row of them is the one that begins at its place
-  row-at : (row : ℕ) → row < 8 → rowOf (settingsFrom kind v area) row ≡ rowAt area (place kind (Initial row))
+  pub row-at : (row : ℕ) → row < 8 → rowOf (settingsFrom kind v area) row ≡ rowAt area (place kind (Initial row))
   unfolding settingsFrom
   row-at row of = nth 4 8 row (settingsFrom kind v area .start) of
 

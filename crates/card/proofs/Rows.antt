@@ -11,14 +11,17 @@ use lib.Dec.{T, eqb}
 use lib.ListN.{length, take, drop, getD}
 use lib.Seq.{drop-cons}
 use borrow.Author.Tests.{ne-eqb}
+use Rattle.leaf.specs.Bytes.{byte}
 use Rattle.leaf.specs.Choosing.{pick}
 use Rattle.leaf.specs.Checks.{Check, firstBad, Fine, numbered, allHold, all-hold}
-use Rattle.card.specs.Card.{baseKind}
+use Rattle.card.specs.Card.{baseKind, rowAt}
 use Rattle.card.specs.Ranges.{placeOf, headChecks, rowChecks, rowsOf, rowOf, rowsChecks, tailChecks, settingsInside, checksOf}
+use Rattle.card.specs.Reading.{settingsOf}
 use Rattle.card.specs.Plain.{Within, SettingMet}
 use Rattle.card.specs.declared.Kind.{Kind}
 use Rattle.card.specs.declared.Row.{Row}
 use Rattle.card.specs.declared.Settings.{Settings}
+use Rattle.card.proofs.Area.{row-at}
 use Rattle.card.proofs.Listed.{all-map, ofRows, by-row, test-met, met-test}
 
 -- ---- "one rule stands once and is applied to eight rows" (02 e)
@@ -47,6 +50,10 @@ row-rule v s i here =
 pub row-places : (i : ℕ) → i < 8
     → (placeOf baseKind (4 + 4 * i) ≡ 7 + 4 * i) × (placeOf baseKind (4 + 4 * i + 1) ≡ 7 + 4 * i + 1) × (placeOf baseKind (4 + 4 * i + 3) ≡ 7 + 4 * i + 3)
 row-places i here = (omega arith, omega arith, omega arith)
+
+-- and the i-th row of a card is the one whose bytes begin there: rows in another order have other bytes
+pub row-bytes : (area : List ℕ) (i : ℕ) → i < 8 → rowOf (settingsOf area) i ≡ rowAt area (7 + 4 * i)
+row-bytes area i here = let e : 7 + 4 * i ≡ 3 + (4 + 4 * i) = omega arith in rw e (row-at baseKind (byte area 2) area i here)
 
 -- all row checks hold exactly when every row is as the rule says, in plain facts
 pub rows-met : (kind : Kind) (s : Settings)
