@@ -21,7 +21,9 @@ use Rattle.desk.specs.Clock.{sameMode, deskOlder, reminded, advanced, begun}
 use Rattle.beacons.specs.Beacons.{isSide, readsOf, zoneMet, reading7, readingOf, readIf, beaconTaken}
 use Rattle.step.specs.declared.Input.{Input}
 use Rattle.step.specs.declared.speed.Standing.{Standing}
-use Rattle.step.specs.Speed.{mainSpeed, none, alwaysAt, btsLimit, mainLimit, limitsBeside, leastOf, supervisedOf, crossingTurned}
+use Rattle.step.specs.declared.speed.Reason.the-variants.{Vmax, Train}
+use Rattle.step.specs.Speed.{mainSpeed, none, alwaysAt, btsLimit, mainLimit, limitsBeside, leastOf, supervisedOf, crossingTurned, limits}
+use Rattle.step.specs.Reason.{firstAt, reasonOf}
 use Rattle.step.specs.Step.{movedOf, answerOf, judgedOf, stepOf}
 use Rattle.step_laws.specs.Walk.{atBeacon, readsAt}
 use Rattle.step_laws.proofs.Carried.{zone-code}
@@ -139,12 +141,20 @@ limit-alike s t top c = rw (main-alike s t (c .kind) c top)
 speed-alike : (s t : Settings) (top : ℕ) (d : Desk) → supervisedOf (later s t) top d ≡ supervisedOf s top d
 unfolding supervisedOf
 speed-alike s t top d =
-    ap (λ (l : Standing). leastOf none (alwaysAt (s .vmax * 100) ∷ alwaysAt top ∷ btsLimit (d .bts) (s .bts) ∷ l ∷ limitsBeside s top (d .beside)) .speed)
+    ap (λ (l : Standing). leastOf none (alwaysAt Vmax (s .vmax * 100) ∷ alwaysAt Train top ∷ btsLimit (d .bts) (s .bts) ∷ l ∷ limitsBeside s top (d .beside)) .speed)
+    (limit-alike s t top (d .main))
+
+-- so is the limit that sets it
+reason-alike : (s t : Settings) (top : ℕ) (d : Desk) → reasonOf (later s t) top d ≡ reasonOf s top d
+unfolding reasonOf
+reason-alike s t top d =
+    ap (λ (speed : ℕ). firstAt speed (limits (later s t) top d)) (speed-alike s t top d)
+    ∙ ap (λ (l : Standing). firstAt (supervisedOf s top d) (alwaysAt Vmax (s .vmax * 100) ∷ alwaysAt Train top ∷ btsLimit (d .bts) (s .bts) ∷ l ∷ limitsBeside s top (d .beside)))
     (limit-alike s t top (d .main))
 
 judged-alike : (s t : Settings) (top : ℕ) (x : Input) (cause : ℕ) (d : Desk) → judgedOf (later s t) top x cause d ≡ judgedOf s top x cause d
 unfolding judgedOf answerOf
-judged-alike s t top x cause d = rw (speed-alike s t top (crossingTurned (x .m) d))
+judged-alike s t top x cause d = rw (speed-alike s t top (crossingTurned (x .m) d), reason-alike s t top (crossingTurned (x .m) d))
 
 -- ---- the sample of the desk
 

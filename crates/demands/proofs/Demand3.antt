@@ -24,7 +24,8 @@ use Rattle.session.specs.Session.{freshSession, openSession, settingsInside}
 use Rattle.session.specs.Runs.{outcomes}
 use Rattle.rides.specs.Recording.{trainOf, samplesOf}
 use Rattle.printed.specs.declared.Columns.{Columns}
-use Rattle.printed.specs.Printed.{highest, printedRide}
+use Rattle.printed.specs.Printed.{highest, printedAs, printedRide}
+use Rattle.printed.specs.declared.Form.the-variants.{Answers}
 use Rattle.printed.proofs.Computes.{card}
 use Rattle.printed.proofs.Silence.{print-silence}
 use Rattle.demands.specs.Runs.{rideOf, firstOf}
@@ -60,7 +61,7 @@ module _ (a b : List ℕ) (h g : ℕ) (s t : Settings) (read-a : readCard a h �
 -- the same, printed
 module _ (columns : Columns) (a b recording : List ℕ) (s t : Settings) (read-a : readCard a highest ≡ given s) (read-b : readCard b highest ≡ given t) where
   same-prints : SameWithout a b → printedRide columns a recording ≡ printedRide columns b recording
-  unfolding printedRide
+  unfolding printedRide printedAs
   same-prints m = rw (read-a, read-b, settings-same a b highest highest s t read-a read-b m)
 
   alike-prints : Same a b 3 39
@@ -78,6 +79,7 @@ module _ (columns : Columns) (a b recording : List ℕ) (s t : Settings) (read-a
       prints-alike columns s t recording k (typeAllowed train (s .vmax)) (opens s train inside) opens-t alike a b read-a read-b
 
 pub demand-3 : Demand3
+unfolding printedRide
 demand-3 =
     record {
       silent-bytes = λ a b h m. let e = silence a b h (m .whole-a) (m .whole-b) (m .same) in (sym e, λ train xs. rw e);
@@ -86,7 +88,7 @@ demand-3 =
       version-2-refused = λ area long two. let e = knows-1-refuses-2 area long two in (e, λ train xs. rw e);
       versions-print = same-prints;
       functions-print = alike-prints;
-      silent-print = λ columns a b recording m. print-silence columns a b recording (m .whole-a) (m .whole-b) (m .same);
+      silent-print = λ columns a b recording m. print-silence (Answers columns) a b recording (m .whole-a) (m .whole-b) (m .same);
     }
 
 -- ---- its hypotheses: areas that share a front, or all but their first three bytes

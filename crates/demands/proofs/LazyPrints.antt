@@ -15,7 +15,7 @@ use Rattle.rides.specs.Recording.{goodRecording, samplesFrom}
 use Rattle.rides.specs.Ride.{startRide}
 use Rattle.text.specs.Decimal.{newline, upperOf, lowerOf, decimal}
 use Rattle.printed.specs.declared.Columns.the-variants.{Paper}
-use Rattle.printed.specs.Printed.{refusedLine, startedText, cardText, printedRide}
+use Rattle.printed.specs.Printed.{refusedLine, startedText, cardText, printedRide, printedAs}
 use Rattle.demands.specs.Demand3.{SameSpeaking, firstLines, SilentPrint, VersionsPrint, FunctionsPrint, R, quiet-R}
 use Rattle.demands.specs.Examples.{card-P, card-P2}
 use Rattle.demands.specs.Lazy.{versionBelow, functionsAbove, PrintersOut}
@@ -63,7 +63,7 @@ below : ℕ → List ℕ → ℕ
 below at text = getD text at 0
 
 version-out : VersionsPrint versionBelow → ⊥
-unfolding definitions below printedRide cardText startedText startRide goodRecording long refusedLine decimal upperOf lowerOf
+unfolding definitions below printedRide printedAs cardText startedText startRide goodRecording long refusedLine decimal upperOf lowerOf
 version-out h =
     let e = h Paper card-P card-P2 [] (settingsOf card-P) (settingsOf card-P2) refl refl (hypotheses-met .same-P) in
     let z : _≡_ {A = ℕ} 1 2 = ap (below 31) e in

@@ -26,6 +26,9 @@ pub mod InTurn
 pub mod Replayed
 pub mod ReplayLists
 pub mod Replay
+pub mod WhyAsked
+pub mod WhySince
+pub mod Why
 pub mod ShutOut
 pub mod Starred
 pub mod LazyLogics

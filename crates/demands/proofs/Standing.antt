@@ -113,13 +113,13 @@ count settings train s xs n h stood =
 
 -- ---- standstill
 
-answered-refused : {a : Told} {n : ℕ} → Answered a ≡ Refused (Number n) → ⊥
+pub answered-refused : {a : Told} {n : ℕ} → Answered a ≡ Refused (Number n) → ⊥
 answered-refused h = let z : _≡_ {A = ℕ} 0 1 = cc in omega arith
 
 number-is : {n m : ℕ} → Refused (Number n) ≡ Refused (Number m) → n ≡ m
 number-is h = cc
 
-answer-is : {a b : Told} → Answered a ≡ Answered b → a ≡ b
+pub answer-is : {a b : Told} → Answered a ≡ Answered b → a ≡ b
 answer-is h = cc
 
 module _ (s : Session) (x : Sample) where

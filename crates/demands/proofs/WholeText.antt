@@ -31,7 +31,8 @@ use Rattle.receiver.proofs.Receivers.{refused-stays, refused-ends}
 use Rattle.receiver.proofs.Head.{begun}
 use Rattle.receiver.proofs.Steps.{Step, step-of}
 use Rattle.printed.specs.declared.Columns.{Columns}
-use Rattle.printed.specs.Printed.{refusedLine, columnsOf, shownText, linesOf, startedText, cardText, highest, printedRide}
+use Rattle.printed.specs.Printed.{refusedLine, columnsOf, shownText, linesOf, startedText, cardText, highest, printedRide, turnText, printedAs}
+use Rattle.printed.specs.declared.Form.the-variants.{Answers}
 use Rattle.printed_pieces.specs.Pieces.{startOn, begunText, startText, pieceText, endText, lineText, linePrinted}
 use Rattle.printed_pieces.proofs.PieceTexts.{piece-append, refused-prints}
 use Rattle.demands.specs.Pieces.{afterBytes}
@@ -114,7 +115,7 @@ module _ (columns : Columns) where
 
   module _ (settings : Settings) (recording : List ℕ) (s : Session) (head : Opened settings recording s) where
     abbrev Text : ℕ → Type 0
-    Text k = pieceText columns (freshReceiver settings) (take (placeOf k) recording) ≡ linesOf columns (freshRide s) recording k
+    Text k = pieceText columns (freshReceiver settings) (take (placeOf k) recording) ≡ linesOf (Answers columns) (freshRide s) recording k
 
     -- the head prints nothing
     head-text : After settings recording s head 0 → Text 0
@@ -124,7 +125,7 @@ module _ (columns : Columns) where
         part-text columns (freshReceiver settings) (take 6 recording) (omega arith) ∙ rw (after .shown)
 
     next-text : (k : ℕ) → placeOf k + 6 ≤ length recording → placeOf k + 6 ≤ long recording 0 → After settings recording s head k → Text k → Text (suc k)
-    unfolding linesOf turnAt
+    unfolding linesOf turnText turnAt
     next-text k h p after before =
         let r = afterBytes settings (take (placeOf k) recording) in
         let here = sample-text r (runOf (freshRide s) (firstSamples recording k)) (long recording 0) recording k (after .place) p in
@@ -145,7 +146,7 @@ module _ (columns : Columns) where
   module _ (settings : Settings) (recording : List ℕ) (good : goodRecording recording ≡ true) where
     lines-as-whole : (s : Session) → openSession settings (trainOf recording) ≡ given s
         → pieceText columns (freshReceiver settings) recording ++ endText columns (afterBytes settings recording)
-        ≡ linesOf columns (freshRide s) recording (samplesIn recording)
+        ≡ linesOf (Answers columns) (freshRide s) recording (samplesIn recording)
     lines-as-whole s opens =
         let same = good-stated recording good in
         let whole = good-met recording good .whole in
@@ -176,12 +177,12 @@ module _ (columns : Columns) where
 
     -- where the opening is refused, its line
     text-as-whole : pieceText columns (freshReceiver settings) recording ++ endText columns (afterBytes settings recording)
-        ≡ startedText columns recording (samplesIn recording) (openSession settings (trainOf recording))
+        ≡ startedText (Answers columns) recording (samplesIn recording) (openSession settings (trainOf recording))
     unfolding startedText openedWith
     text-as-whole = cases (openSession settings (trainOf recording)) refl
       where
         cases : (a : Answer Session) → openSession settings (trainOf recording) ≡ a
-            → pieceText columns (freshReceiver settings) recording ++ endText columns (afterBytes settings recording) ≡ startedText columns recording (samplesIn recording) a
+            → pieceText columns (freshReceiver settings) recording ++ endText columns (afterBytes settings recording) ≡ startedText (Answers columns) recording (samplesIn recording) a
         cases (given s) e = lines-as-whole s e
         cases (refused n) e = refused-text n (rw e)
         cases (refusedAt n place) e = refused-text n (rw e)
@@ -190,7 +191,7 @@ module _ (columns : Columns) where
 
 pub prints-as-whole : (columns : Columns) (card : List ℕ) (pieces : List (List ℕ)) → goodRecording (flatten pieces) ≡ true
     → linePrinted columns card pieces ≡ printedRide columns card (flatten pieces)
-unfolding linePrinted startText startOn begunText lineText printedRide cardText
+unfolding linePrinted startText startOn begunText lineText printedRide printedAs cardText
 prints-as-whole columns card pieces good = cases (readCard card highest) refl
   where
     cases : (a : Answer Settings) → readCard card highest ≡ a → linePrinted columns card pieces ≡ printedRide columns card (flatten pieces)

@@ -8,6 +8,7 @@ pub mod Pieces
 pub mod Standing
 pub mod Quiet
 pub mod Replay
+pub mod Why
 pub mod ShutOut
 pub mod Starred
 pub mod Lazy

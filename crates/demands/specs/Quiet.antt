@@ -113,7 +113,7 @@ abbrev pub withLast : ℕ → Session → Session
 withLast code s = withDesk (withCode code (s .desk)) s
 
 abbrev pub withCause : ℕ → Session → Session
-withCause cause s = withDesk (withBrake (record { cause = cause; stood = s .desk .brake .stood }) (s .desk)) s
+withCause cause s = withDesk (withBrake (record { cause = cause; stood = s .desk .brake .stood; age = s .desk .brake .age }) (s .desk)) s
 
 -- ---- 12 in place of 0, which is no beacon either
 

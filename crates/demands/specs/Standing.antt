@@ -102,7 +102,7 @@ pub record StandstillLaws (s : Session) (x : Sample) : Type 0 where
 
 -- the session with another count
 abbrev pub withCount : ℕ → Session → Session
-withCount n s = withDesk (withBrake (record { cause = s .desk .brake .cause; stood = n }) (s .desk)) s
+withCount n s = withDesk (withBrake (record { cause = s .desk .brake .cause; stood = n; age = s .desk .brake .age }) (s .desk)) s
 
 -- what a sample leaves and is answered with, of two sessions: alike but for the brake's part and lamp 10, and the cause where rearm is pressed
 pub record AlikeBut10 (s t : Session) (x : Sample) (a b : Told) : Type 0 where

@@ -1,5 +1,5 @@
 -- Document 01, "Controls": the brake. "Any cause puts the brake on; the first stands, .." Document 02 b), "Crawling is not standing": the
--- session's count of samples without pulses, and standstill.
+-- session's count of samples without pulses, and standstill. Document 02 f), "Why is it forty?": the age of the brake.
 use Prim.Native.Nat.{ℕ}
 use mathlib.Core.Bool.{Bool, _&&_}
 use lib.Dec.{leb, eqb}
@@ -24,10 +24,15 @@ standstill pulses b = eqb pulses 0 && leb standingTime (stoodAfter pulses (b .st
 
 -- ---- the brake
 
+-- 02 f: "how many samples ago the brake came on"; "The session gains the age of the brake, stopping at 30,000." After a sample through which the
+-- brake stays on it "advances with the others", else it "is 0 when the brake comes on and at the rearm" (f8), and while it is off
+unfoldable pub brakeAge : Bool → ℕ → ℕ
+brakeAge stays age = pick stays (agedOf age) 0
+
 -- "cause (0 none)": the brake is off. "It opens at 10, so a desk that never moved stands" (b2)
 abbrev pub openingBrake : Brake
-openingBrake = record { cause = 0; stood = standingTime }
+openingBrake = record { cause = 0; stood = standingTime; age = 0 }
 
--- after a sample: the cause that stands then, and the count with this sample
-abbrev pub brakeAfter : ℕ → ℕ → Brake → Brake
-brakeAfter cause pulses b = record { cause = cause; stood = stoodAfter pulses (b .stood) }
+-- after a sample: the cause that stands then, the count with this sample, and the age of the brake
+abbrev pub brakeAfter : ℕ → Bool → ℕ → Brake → Brake
+brakeAfter cause stays pulses b = record { cause = cause; stood = stoodAfter pulses (b .stood); age = brakeAge stays (b .age) }

@@ -17,9 +17,9 @@ use Rattle.desk.specs.declared.brake.Brake.{Brake}
 use Rattle.desk.specs.declared.beside.Beside.{Beside}
 use Rattle.desk.specs.declared.state.Desk.{Desk}
 
--- 02 b: "The session gains a count", "range 0..30,000" (b5)
+-- 02 b: "The session gains a count", "range 0..30,000" (b5); 02 f: "The session gains the age of the brake", "range 0..30,000" (f8)
 abbrev pub brakeInside : Brake → Bool
-brakeInside b = leb (b .cause) causeTop && leb (b .stood) ageTop
+brakeInside b = leb (b .cause) causeTop && leb (b .stood) ageTop && leb (b .age) ageTop
 
 abbrev pub mainInside : Main → Bool
 mainInside c = leb (c .age) ageTop && leb (c .distance) distanceTop

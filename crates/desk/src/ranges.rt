@@ -21,7 +21,7 @@ ghost use Rattle.desk.specs.Ranges.{brakeInside, mainInside, windowInsid
 fn brake_inside(b: Brake) -> bool
     ensures { λ r. ⌜ r ≡ brakeInside b ⌝ }
 {
-    (b.cause <= CAUSE_TOP) & (b.stood <= AGE_TOP)
+    (b.cause <= CAUSE_TOP) & (b.stood <= AGE_TOP) & (b.age <= AGE_TOP)
 }
 
 fn main_inside(c: Main) -> bool

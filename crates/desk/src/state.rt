@@ -14,11 +14,11 @@ use signals::window::Window;
 ghost use mathlib.Core.Path.{_≡_};
 ghost use Rattle.desk.specs.State.{withBts, withCode, withBrake, withMain, withWindow, withSide, withArmed, withReminder, withOption, withBeside, withAlongside, withCrossing, withLimit, takenOver, crossingSet, limitNow, freshDesk, restingOf, modeChanged};
 
-// `bts` is the mode, `code` the last code, `window` the main window.
+// `bts` is the mode, `code` the last code, `window` the main window. The brake comes last in memory, where a sample costs least
+// (tests/cost).
 pub struct Desk {
     pub bts: bool,
     pub code: u8,
-    pub brake: Brake,
     pub main: Main,
     pub window: Window,
     pub side: Window,
@@ -26,6 +26,7 @@ pub struct Desk {
     pub reminder: Reminder,
     pub option: CrossingOption,
     pub beside: Beside,
+    pub brake: Brake,
 }
 
 impl Desk {

@@ -12,7 +12,7 @@ use Rattle.signals.specs.Windows.{answersOf, windowOlder, missedOf, timeLeft}
 use Rattle.sides.specs.Crossing.{crossingOlder, unprotectedSet, protectedSet, turnsAt, turnedAt, iconOf, optionOlder}
 use Rattle.sides.specs.Limit.{limitSet, steppedFinal, limitSpeed, mayStep, removable}
 use Rattle.desk.specs.Beside.{besideOlder}
-use Rattle.desk.specs.Brake.{stoodAfter, standstill}
+use Rattle.desk.specs.Brake.{stoodAfter, standstill, brakeAge}
 use Rattle.desk.specs.Ranges.{besideInside, deskInside}
 use Rattle.desk.specs.Clock.{deskOlder, reminded, mainCounts, sideCounts, mainMissed, sideMissed, advanced, begun}
 use Rattle.desk.specs.State.{takenOver, crossingSet, limitNow, modeChanged}
@@ -37,7 +37,7 @@ unfolding fallenOf curveOf rowSpeed crossingOlder unprotectedSet protectedSet tu
 side-parts = tt
 
 unfoldable pub desk : Unit {0}
-unfolding stoodAfter standstill besideOlder deskOlder reminded mainCounts sideCounts mainMissed sideMissed advanced begun takenOver crossingSet limitNow modeChanged
+unfolding stoodAfter standstill brakeAge besideOlder deskOlder reminded mainCounts sideCounts mainMissed sideMissed advanced begun takenOver crossingSet limitNow modeChanged
 desk = tt
 
 unfoldable pub presses : Unit {0}

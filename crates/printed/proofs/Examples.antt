@@ -7,7 +7,7 @@ use Rattle.card.specs.CardA.{card-A}
 use Rattle.text.specs.Decimal.{upperOf, lowerOf, decimal}
 use Rattle.rides.specs.Recording.{goodRecording}
 use Rattle.rides.specs.Ride.{startRide, toldOf, turnOf, turnAt, rideFrom}
-use Rattle.printed.specs.Printed.{heading, refusedLine, shownText, linesOf, startedText, cardText, printedRide}
+use Rattle.printed.specs.Printed.{heading, refusedLine, shownText, turnText, linesOf, startedText, cardText, printedAs, printedRide}
 use Rattle.printed.specs.declared.Columns.the-variants.{Paper}
 use Rattle.printed.proofs.Computes.{answers}
 
@@ -24,5 +24,5 @@ lines-A =
     0x31 ∷ 0x36 ∷ 0x20 ∷ 0x30 ∷ 0x0A ∷ 0x33 ∷ 0x20 ∷ 0x38 ∷ 0x30 ∷ 0x30 ∷ 0x30 ∷ 0x20 ∷ 0x30 ∷ 0x20 ∷ 0x30 ∷ 0x0A ∷ []
 
 pub paper-ride : printedRide Paper (card-A 0x27 0x01 0xA0) ride-A ≡ heading Paper ++ lines-A
-unfolding answers refusedLine shownText linesOf startedText cardText printedRide long upperOf lowerOf decimal goodRecording startRide toldOf turnOf turnAt rideFrom
+unfolding answers refusedLine shownText turnText linesOf startedText cardText printedAs printedRide long upperOf lowerOf decimal goodRecording startRide toldOf turnOf turnAt rideFrom
 paper-ride = refl

@@ -19,8 +19,9 @@ use Rattle.rides.specs.declared.ride.Ride.{Ride}
 use Rattle.rides.specs.declared.ride.Shown.{Shown}
 use Rattle.rides.specs.declared.ride.Shown.the-variants as shown
 use Rattle.rides.proofs.Runs.{turn-paper, recording-shows, after-suc, ended-shows, ended-turn}
-use Rattle.printed.specs.Printed.{shownText, linesOf, startedText, cardText, highest, printedRide, linesFrom, rideLines, rideOn, printedLines}
+use Rattle.printed.specs.Printed.{shownText, turnText, linesOf, startedText, cardText, highest, printedAs, printedRide, linesFrom, rideLines, rideOn, printedLines}
 use Rattle.printed.specs.declared.Columns.{Columns}
+use Rattle.printed.specs.declared.Form.the-variants.{Answers}
 
 -- ---- lines of a list, and of one list behind another
 
@@ -119,8 +120,8 @@ module _ (r : Ride) (recording : List ℕ) where
           rw same (text-of columns (suc k) sh)
       cases false e = rw (ended-shows (rideAfter r recording k) recording k e) (no-text columns number (suc k))
 
-  pub lines-shown : (columns : Columns) (k : ℕ) → linesOf columns r recording k ≡ flatten (linesFrom columns 1 (shownBy r (firstSamples recording k)))
-  unfolding linesOf
+  pub lines-shown : (columns : Columns) (k : ℕ) → linesOf (Answers columns) r recording k ≡ flatten (linesFrom columns 1 (shownBy r (firstSamples recording k)))
+  unfolding linesOf turnText turnAt
   lines-shown columns zero = rw (none-shown r recording) (sym (no-lines columns))
   lines-shown columns (suc k) =
       rw (recording-shows r recording k, lines-append, flatten-append, next-text columns k, lines-shown columns k)
@@ -128,14 +129,14 @@ module _ (r : Ride) (recording : List ℕ) where
 -- ---- the whole text
 
 started-lines : (columns : Columns) (recording : List ℕ) (a : Answer Session)
-    → startedText columns recording (samplesIn recording) a ≡ flatten (rideLines columns (shownFrom a (samplesOf recording)))
+    → startedText (Answers columns) recording (samplesIn recording) a ≡ flatten (rideLines columns (shownFrom a (samplesOf recording)))
 unfolding startedText flatten
 started-lines columns recording (given s) = lines-shown (freshRide s) recording columns (samplesIn recording)
 started-lines columns recording (refused m) = rw append-nil
 started-lines columns recording (refusedAt m place) = rw append-nil
 
 card-lines : (columns : Columns) (recording : List ℕ) (a : Answer Settings)
-    → cardText columns recording (samplesIn recording) a ≡ flatten (rideLines columns (rideOn a recording))
+    → cardText (Answers columns) recording (samplesIn recording) a ≡ flatten (rideLines columns (rideOn a recording))
 unfolding cardText wholeRide flatten
 card-lines columns recording (given settings) = started-lines columns recording (startRide settings recording)
 card-lines columns recording (refused m) = rw append-nil
@@ -143,5 +144,5 @@ card-lines columns recording (refusedAt m place) = rw append-nil
 
 -- the printed ride is the heading and a line for each that the ride on this card shows, in order
 pub printed-lines : (columns : Columns) (card recording : List ℕ) → printedRide columns card recording ≡ flatten (printedLines columns card recording)
-unfolding printedRide printedLines flatten
+unfolding printedRide printedAs printedLines flatten
 printed-lines columns card recording = rw (card-lines columns recording (readCard card highest))

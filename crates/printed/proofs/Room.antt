@@ -13,17 +13,22 @@ use Rattle.card.specs.Reading.{readCard}
 use Rattle.session.specs.declared.Session.{Session}
 use Rattle.session.specs.Session.{openSession}
 use Rattle.step.specs.declared.Answer.{Answer as Told}
+use Rattle.step.specs.Reason.{reasonNumber}
+use Rattle.step.specs.declared.speed.Reason.{Reason}
 use Rattle.text.specs.Decimal.{line}
 use Rattle.text.proofs.Lengths.{decimal-length}
 use Rattle.rides.specs.Recording.{samplesIn, goodRecording, trainOf}
-use Rattle.rides.specs.Ride.{startRide, freshRide, rideAfter, turnAt}
+use Rattle.rides.specs.Ride.{startRide, freshRide, rideAfter}
+use Rattle.rides.specs.Why.{explainedAt}
 use Rattle.rides.specs.declared.ride.Ride.{Ride}
 use Rattle.rides.specs.declared.ride.Shown.{Shown}
 use Rattle.rides.specs.declared.ride.Shown.the-variants as shown
 use Rattle.rides.proofs.Recordings.{good-met}
-use Rattle.printed.specs.Printed.{heading, refusedLine, columnsOf, shownText, linesOf, startedText, cardText, printedRide}
+use Rattle.printed.specs.Printed.{headingOf, refusedLine, columnsOf, shownText, reasonText, turnText, linesOf, startedText, cardText, printedAs}
 use Rattle.printed.specs.declared.Columns.{Columns}
 use Rattle.printed.specs.declared.Columns.the-variants.{Paper, Whole}
+use Rattle.printed.specs.declared.Form.{Form}
+use Rattle.printed.specs.declared.Form.the-variants.{Answers, Reasons}
 
 answer-length : (columns : Columns) (number : ℕ) (a : Told) → length (line number (columnsOf columns a)) ≤ 66
 answer-length Paper number a =
@@ -33,7 +38,7 @@ answer-length Whole number a =
     simp length-append
     (omega (arith, decimal-length number, decimal-length (a .speed), decimal-length (a .lamps), decimal-length (a .cause), decimal-length (a .icon), decimal-length (pick (a .limit) 1 0)))
 
-refused-length : (n : ℕ) → length (refusedLine n) ≤ 66
+pub refused-length : (n : ℕ) → length (refusedLine n) ≤ 66
 unfolding refusedLine
 refused-length n = simp length-append (omega (arith, decimal-length n))
 
@@ -43,38 +48,58 @@ shown-length columns number (shown.Answered a) = answer-length columns number a
 shown-length columns number (shown.Refused n) = refused-length n
 shown-length columns number shown.Nothing = lit≤ tt
 
-lines-length : (columns : Columns) (r : Ride) (recording : List ℕ) (k : ℕ) → length (linesOf columns r recording k) ≤ 66 * k
-unfolding linesOf
-lines-length columns r recording zero = lit≤ tt
-lines-length columns r recording (suc k) =
-    let here = shown-length columns (suc k) (turnAt (rideAfter r recording k) recording k .shown) in
-    let before = lines-length columns r recording k in
-    simp length-append (omega arith)
+-- ---- with the reason
 
-started-length : (columns : Columns) (settings : Settings) (recording : List ℕ) → length (startedText columns recording (samplesIn recording) (startRide settings recording)) ≤ 660000
-unfolding startRide startedText
-started-length columns settings recording = cases (goodRecording recording) refl (openSession settings (trainOf recording))
-  where
-    opened : samplesIn recording ≤ 10000 → (a : Answer Session) → length (startedText columns recording (samplesIn recording) a) ≤ 660000
-    opened few (given s) = omega (arith, lines-length columns (freshRide s) recording (samplesIn recording))
-    opened few (refused n) = omega (arith, refused-length n)
-    opened few (refusedAt n place) = omega (arith, refused-length n)
+reason-length : (number : ℕ) (sh : Shown) (why : Reason) → length (reasonText number sh why) ≤ 66
+unfolding reasonText
+reason-length number (shown.Answered a) why =
+    simp length-append
+    (omega (arith, decimal-length number, decimal-length (a .speed), decimal-length (a .lamps), decimal-length (a .cause), decimal-length (reasonNumber why)))
+reason-length number (shown.Refused n) why = refused-length n
+reason-length number shown.Nothing why = lit≤ tt
 
-    cases : (t : Bool) → goodRecording recording ≡ t → (a : Answer Session) → length (startedText columns recording (samplesIn recording) (pick t a (refused 14))) ≤ 660000
-    cases true e a = opened (good-met recording e .few) a
-    cases false e a = omega (arith, refused-length 14)
+turn-length : (form : Form) (number : ℕ) (sh : Shown) (why : Reason) → length (turnText form number sh why) ≤ 66
+unfolding turnText
+turn-length (Answers columns) number sh why = shown-length columns number sh
+turn-length Reasons number sh why = reason-length number sh why
 
-card-length : (columns : Columns) (recording : List ℕ) (read : Answer Settings) → length (cardText columns recording (samplesIn recording) read) ≤ 660000
-unfolding cardText
-card-length columns recording (given settings) = started-length columns settings recording
-card-length columns recording (refused n) = omega (arith, refused-length n)
-card-length columns recording (refusedAt n place) = omega (arith, refused-length n)
+-- ---- the whole text
 
-heading-length : (columns : Columns) → length (heading columns) ≤ 34
-heading-length Paper = lit≤ tt
-heading-length Whole = lit≤ tt
+module _ (form : Form) where
+  lines-length : (r : Ride) (recording : List ℕ) (k : ℕ) → length (linesOf form r recording k) ≤ 66 * k
+  unfolding linesOf
+  lines-length r recording zero = lit≤ tt
+  lines-length r recording (suc k) =
+      let turn = explainedAt (rideAfter r recording k) recording k in
+      let here = turn-length form (suc k) (turn .turned .shown) (turn .why .reason) in
+      let before = lines-length r recording k in
+      simp length-append (omega arith)
 
-pub printed-length : (columns : Columns) (card recording : List ℕ) → length (printedRide columns card recording) ≤ 660040
-unfolding printedRide
-printed-length columns card recording =
-    simp length-append (omega (arith, heading-length columns, card-length columns recording (readCard card 2)))
+  started-length : (settings : Settings) (recording : List ℕ) → length (startedText form recording (samplesIn recording) (startRide settings recording)) ≤ 660000
+  unfolding startRide startedText
+  started-length settings recording = cases (goodRecording recording) refl (openSession settings (trainOf recording))
+    where
+      opened : samplesIn recording ≤ 10000 → (a : Answer Session) → length (startedText form recording (samplesIn recording) a) ≤ 660000
+      opened few (given s) = omega (arith, lines-length (freshRide s) recording (samplesIn recording))
+      opened few (refused n) = omega (arith, refused-length n)
+      opened few (refusedAt n place) = omega (arith, refused-length n)
+
+      cases : (t : Bool) → goodRecording recording ≡ t → (a : Answer Session) → length (startedText form recording (samplesIn recording) (pick t a (refused 14))) ≤ 660000
+      cases true e a = opened (good-met recording e .few) a
+      cases false e a = omega (arith, refused-length 14)
+
+  card-length : (recording : List ℕ) (read : Answer Settings) → length (cardText form recording (samplesIn recording) read) ≤ 660000
+  unfolding cardText
+  card-length recording (given settings) = started-length settings recording
+  card-length recording (refused n) = omega (arith, refused-length n)
+  card-length recording (refusedAt n place) = omega (arith, refused-length n)
+
+heading-length : (form : Form) → length (headingOf form) ≤ 34
+heading-length (Answers Paper) = lit≤ tt
+heading-length (Answers Whole) = lit≤ tt
+heading-length Reasons = lit≤ tt
+
+pub printed-length : (form : Form) (card recording : List ℕ) → length (printedAs form card recording) ≤ 660040
+unfolding printedAs
+printed-length form card recording =
+    simp length-append (omega (arith, heading-length form, card-length form recording (readCard card 2)))

@@ -1,4 +1,5 @@
--- Silent bytes: two card areas, each at least as long as the record, with the same speaking bytes print the same ride.
+-- Silent bytes: two card areas, each at least as long as the record, with the same speaking bytes print the same ride,
+-- and the same reasons.
 use Prim.Native.Nat.{ℕ, _≤_}
 use mathlib.Core.Path.{_≡_}
 use mathlib.Core.Bool.{true}
@@ -7,10 +8,10 @@ use lib.ListN.{length}
 use Rattle.leaf.specs.Bytes.{byte}
 use Rattle.card.specs.Card.{lengthOf, speaks}
 use Rattle.card.proofs.Silence.{silence}
-use Rattle.printed.specs.Printed.{printedRide}
-use Rattle.printed.specs.declared.Columns.{Columns}
+use Rattle.printed.specs.Printed.{printedAs}
+use Rattle.printed.specs.declared.Form.{Form}
 
-pub print-silence : (columns : Columns) (a b recording : List ℕ) → lengthOf (byte a 2) ≤ length a → lengthOf (byte a 2) ≤ length b
-    → ((i : ℕ) → speaks (byte a 2) (byte a 39) i ≡ true → byte a i ≡ byte b i) → printedRide columns a recording ≡ printedRide columns b recording
-unfolding printedRide
-print-silence columns a b recording fits-a fits-b same = rw (silence a b 2 fits-a fits-b same)
+pub print-silence : (form : Form) (a b recording : List ℕ) → lengthOf (byte a 2) ≤ length a → lengthOf (byte a 2) ≤ length b
+    → ((i : ℕ) → speaks (byte a 2) (byte a 39) i ≡ true → byte a i ≡ byte b i) → printedAs form a recording ≡ printedAs form b recording
+unfolding printedAs
+print-silence form a b recording fits-a fits-b same = rw (silence a b 2 fits-a fits-b same)

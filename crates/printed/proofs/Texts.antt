@@ -14,28 +14,32 @@ use Rattle.session.specs.Session.{openSession}
 use Rattle.rides.specs.Recording.{samplesIn, mostSamples, goodRecording, trainOf}
 use Rattle.rides.specs.Ride.{startRide, numberOf}
 use Rattle.rides.proofs.Recordings.{good-met}
-use Rattle.printed.specs.Printed.{refusedLine, startedText, cardText}
-use Rattle.printed.specs.declared.Columns.{Columns}
+use Rattle.printed.specs.Printed.{refusedLine, startedText, cardText, startAfter}
+use Rattle.printed.specs.declared.Form.{Form}
 
-pub started-refused : (columns : Columns) (recording : List ℕ) (n : ℕ) (why : Refusal) → startedText columns recording n (refusalOf why) ≡ refusedLine (numberOf why)
+pub started-refused : (form : Form) (recording : List ℕ) (n : ℕ) (why : Refusal) → startedText form recording n (refusalOf why) ≡ refusedLine (numberOf why)
 unfolding startedText
-started-refused columns recording n (Number m) = refl
-started-refused columns recording n (At m place) = refl
+started-refused form recording n (Number m) = refl
+started-refused form recording n (At m place) = refl
 
-pub card-refused : (columns : Columns) (recording : List ℕ) (n : ℕ) (why : Refusal) → cardText columns recording n (refusalOf why) ≡ refusedLine (numberOf why)
+pub card-refused : (form : Form) (recording : List ℕ) (n : ℕ) (why : Refusal) → cardText form recording n (refusalOf why) ≡ refusedLine (numberOf why)
 unfolding cardText
-card-refused columns recording n (Number m) = refl
-card-refused columns recording n (At m place) = refl
+card-refused form recording n (Number m) = refl
+card-refused form recording n (At m place) = refl
+
+pub start-refused : (why : Refusal) (recording : List ℕ) → startAfter (refusalOf why) recording ≡ refusalOf why
+start-refused (Number n) recording = refl
+start-refused (At n place) recording = refl
 
 -- a recording with more samples than a good one can have is refused before its first
-pub capped : (columns : Columns) (recording : List ℕ) (read : Answer Settings) → cardText columns recording (min (samplesIn recording) mostSamples) read ≡ cardText columns recording (samplesIn recording) read
+pub capped : (form : Form) (recording : List ℕ) (read : Answer Settings) → cardText form recording (min (samplesIn recording) mostSamples) read ≡ cardText form recording (samplesIn recording) read
 unfolding cardText startRide startedText
-capped columns recording (given settings) = cases (goodRecording recording) refl
+capped form recording (given settings) = cases (goodRecording recording) refl
   where
     cases : (t : Bool) → goodRecording recording ≡ t
-        → startedText columns recording (min (samplesIn recording) mostSamples) (pick t (openSession settings (trainOf recording)) (refused 14))
-        ≡ startedText columns recording (samplesIn recording) (pick t (openSession settings (trainOf recording)) (refused 14))
+        → startedText form recording (min (samplesIn recording) mostSamples) (pick t (openSession settings (trainOf recording)) (refused 14))
+        ≡ startedText form recording (samplesIn recording) (pick t (openSession settings (trainOf recording)) (refused 14))
     cases true e = rw (min-eq-left (good-met recording e .few))
     cases false e = refl
-capped columns recording (refused m) = refl
-capped columns recording (refusedAt m place) = refl
+capped form recording (refused m) = refl
+capped form recording (refusedAt m place) = refl

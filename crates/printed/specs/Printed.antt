@@ -1,4 +1,5 @@
--- Document 01, "A ride, whole": what the ride program prints, as one text of ASCII bytes.
+-- Document 01, "A ride, whole": what the ride program prints, as one text of ASCII bytes. Document 02 f), "Why is it forty?": "The printed ride may
+-- carry the reason, 1..7, as a fifth column when asked."
 use Prim.Native.Nat.{ℕ, zero, suc}
 use mathlib.Core.Bool.{Bool}
 use mathlib.Core.List.{List, [], _∷_, _++_}
@@ -14,8 +15,15 @@ use Rattle.rides.specs.Ride.{startRide, freshRide, rideAfter, turnAt, wholeRide
 use Rattle.rides.specs.declared.ride.Ride.{Ride}
 use Rattle.rides.specs.declared.ride.Shown.{Shown}
 use Rattle.rides.specs.declared.ride.Shown.the-variants as shown
+use Rattle.rides.specs.declared.ride.Explained.{Explained}
+use Rattle.rides.specs.Why.{explainedAt}
+use Rattle.step.specs.Reason.{reasonNumber}
+use Rattle.step.specs.declared.speed.Reason.{Reason}
+use Rattle.text.specs.Words.{ascii}
 use Rattle.printed.specs.declared.Columns.{Columns}
 use Rattle.printed.specs.declared.Columns.the-variants.{Paper, Whole}
+use Rattle.printed.specs.declared.Form.{Form}
+use Rattle.printed.specs.declared.Form.the-variants.{Answers, Reasons}
 
 -- ---- the words
 
@@ -38,6 +46,11 @@ abbrev pub heading : Columns → List ℕ
 heading Paper = paperWords ++ newline ∷ []
 heading Whole = paperWords ++ wholeWords ++ newline ∷ []
 
+-- "The heading is then `n limit lamps cause reason`" (f9)
+abbrev pub headingOf : Form → List ℕ
+headingOf (Answers columns) = heading columns
+headingOf Reasons = paperWords ++ ascii " reason" ++ newline ∷ []
+
 -- "A refusal prints the line `refused` and its number"
 unfoldable pub refusedLine : ℕ → List ℕ
 refusedLine n = refusedWord ++ ended n newline
@@ -57,32 +70,57 @@ shownText columns number (shown.Answered a) = line number (columnsOf columns a)
 shownText columns number (shown.Refused n) = refusedLine n
 shownText columns number shown.Nothing = []
 
+-- with the reason of the answer's S as a fifth column; "refusal lines are unchanged" (f9)
+unfoldable pub reasonText : ℕ → Shown → Reason → List ℕ
+reasonText number (shown.Answered a) why = line number (a .speed ∷ a .lamps ∷ a .cause ∷ reasonNumber why ∷ [])
+reasonText number (shown.Refused n) why = refusedLine n
+reasonText number shown.Nothing why = []
+
+-- what is printed of a turn
+unfoldable pub turnText : Form → ℕ → Shown → Reason → List ℕ
+turnText (Answers columns) number sh why = shownText columns number sh
+turnText Reasons number sh why = reasonText number sh why
+
 -- the lines of the first k samples, which are numbered from 1
-unfoldable pub linesOf : Columns → Ride → List ℕ → ℕ → List ℕ
-linesOf columns r recording zero = []
-linesOf columns r recording (suc k) =
-    linesOf columns r recording k ++ shownText columns (suc k) (turnAt (rideAfter r recording k) recording k .shown)
+unfoldable pub linesOf : Form → Ride → List ℕ → ℕ → List ℕ
+linesOf form r recording zero = []
+linesOf form r recording (suc k) =
+    let turn : Explained = explainedAt (rideAfter r recording k) recording k in
+    linesOf form r recording k ++ turnText form (suc k) (turn .turned .shown) (turn .why .reason)
 
 -- ---- the printed ride
 
 -- below the heading, of the recording's first n samples: 14, 7, or the samples' lines
-unfoldable pub startedText : Columns → List ℕ → ℕ → Answer Session → List ℕ
-startedText columns recording n (given s) = linesOf columns (freshRide s) recording n
-startedText columns recording n (refused m) = refusedLine m
-startedText columns recording n (refusedAt m place) = refusedLine m
+unfoldable pub startedText : Form → List ℕ → ℕ → Answer Session → List ℕ
+startedText form recording n (given s) = linesOf form (freshRide s) recording n
+startedText form recording n (refused m) = refusedLine m
+startedText form recording n (refusedAt m place) = refusedLine m
 
 -- the card's refusal, or what follows
-unfoldable pub cardText : Columns → List ℕ → ℕ → Answer Settings → List ℕ
-cardText columns recording n (given settings) = startedText columns recording n (startRide settings recording)
-cardText columns recording n (refused m) = refusedLine m
-cardText columns recording n (refusedAt m place) = refusedLine m
+unfoldable pub cardText : Form → List ℕ → ℕ → Answer Settings → List ℕ
+cardText form recording n (given settings) = startedText form recording n (startRide settings recording)
+cardText form recording n (refused m) = refusedLine m
+cardText form recording n (refusedAt m place) = refusedLine m
 
 -- "The ride program prints the heading, then reads the card (highest 2) from a file and the ride from standard input."
 abbrev pub highest : ℕ
 highest = 2
 
+-- the session that a recording starts on a card: that of a ride, "14, 7", on a card that was read; or the reader's refusal
+abbrev pub startAfter : Answer Settings → List ℕ → Answer Session
+startAfter (given settings) recording = startRide settings recording
+startAfter (refused n) recording = refused n
+startAfter (refusedAt n place) recording = refusedAt n place
+
+unfoldable pub startOn : List ℕ → List ℕ → Answer Session
+startOn card recording = startAfter (readCard card highest) recording
+
+unfoldable pub printedAs : Form → List ℕ → List ℕ → List ℕ
+printedAs form card recording = headingOf form ++ cardText form recording (samplesIn recording) (readCard card highest)
+
+-- the answers alone
 unfoldable pub printedRide : Columns → List ℕ → List ℕ → List ℕ
-printedRide columns card recording = heading columns ++ cardText columns recording (samplesIn recording) (readCard card highest)
+printedRide columns card recording = printedAs (Answers columns) card recording
 
 -- ---- the same line by line
 

@@ -11,7 +11,8 @@ use Rattle.rides.specs.Ride.{startRide, toldOf, turnOf, turnAt, rideFrom}
 use Rattle.rides.specs.Replay.{stepsFrom, lastFrom, ranFrom, unrunBy, replayOf}
 use Rattle.printed.proofs.Computes.{answers}
 use Rattle.printed.proofs.Examples.{ride-A}
-use Rattle.printed_replay.specs.Quotas.{heading, startOn, begunText, startText, ranLine, replayedText, quotaText, quotasText, replayPrinted}
+use Rattle.printed.specs.Printed.{startOn}
+use Rattle.printed_replay.specs.Quotas.{heading, begunText, startText, ranLine, replayedText, quotaText, quotasText, replayPrinted}
 
 abbrev pub quotas-A : List ℕ
 quotas-A =

@@ -22,17 +22,13 @@ use Rattle.rides.specs.declared.replay.Last.the-variants as last
 use Rattle.rides.specs.declared.replay.End.{End}
 use Rattle.rides.specs.declared.replay.End.the-variants as end
 use Rattle.rides.proofs.Replays.{steps-low, few-samples}
-use Rattle.printed.specs.Printed.{refusedLine, columnsOf, shownText}
+use Rattle.printed.specs.Printed.{refusedLine, columnsOf, shownText, startAfter, startOn}
 use Rattle.printed.specs.declared.Columns.the-variants.{Whole}
 use Rattle.printed.proofs.Room.{shown-length}
 use Rattle.printed_replay.specs.Word.{mostQuota}
-use Rattle.printed_replay.specs.Quotas.{startAfter, startOn, begunText, startText, ranLine, refusedAtLine, replayedText, quotaText, placeAfter}
+use Rattle.printed_replay.specs.Quotas.{begunText, startText, ranLine, refusedAtLine, replayedText, quotaText, placeAfter}
 
 -- ---- a start that is refused
-
-pub start-refused : (why : Refusal) (recording : List ℕ) → startAfter (refusalOf why) recording ≡ refusalOf why
-start-refused (Number n) recording = refl
-start-refused (At n place) recording = refl
 
 pub begun-refused : (why : Refusal) → begunText (refusalOf why) ≡ refusedLine (numberOf why)
 unfolding begunText

@@ -15,7 +15,7 @@ use Rattle.rides.specs.declared.replay.Last.{Last}
 use Rattle.rides.specs.declared.replay.Last.the-variants as last
 use Rattle.rides.specs.declared.replay.End.{End}
 use Rattle.rides.specs.declared.replay.End.the-variants as end
-use Rattle.printed.specs.Printed.{highest, refusedLine, columnsOf}
+use Rattle.printed.specs.Printed.{refusedLine, columnsOf, startOn}
 use Rattle.printed.specs.declared.Columns.the-variants.{Whole}
 
 -- ---- the start: the heading, then the card (highest 2) and the recording
@@ -23,15 +23,6 @@ use Rattle.printed.specs.declared.Columns.the-variants.{Whole}
 -- the columns' names
 abbrev pub heading : List ℕ
 heading = ascii "place ran limit lamps cause icon standing" ++ newline ∷ []
-
--- "a starting session": that of a ride, "14, 7", on a card that was read; or the reader's refusal
-abbrev pub startAfter : Answer Settings → List ℕ → Answer Session
-startAfter (given settings) recording = startRide settings recording
-startAfter (refused n) recording = refused n
-startAfter (refusedAt n place) recording = refusedAt n place
-
-unfoldable pub startOn : List ℕ → List ℕ → Answer Session
-startOn card recording = startAfter (readCard card highest) recording
 
 -- the line of what refuses the start, or nothing
 unfoldable pub begunText : Answer Session → List ℕ

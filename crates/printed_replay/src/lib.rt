@@ -2,17 +2,15 @@
 //
 // No public function has a `requires`. Each ensures that its result, and every byte of a lent buffer, is what the
 // definition of specs/ that it names gives.
-use card::Reading;
 use printed::Columns;
-use printed::HIGHEST;
 use printed::put_refused;
 use printed::put_shown;
+use printed::start_on;
 use rides::replay::End;
 use rides::replay::Last;
 use rides::replay::replay;
 use rides::ride::Shown;
 use rides::ride::number_of;
-use rides::ride::start;
 use session::Opened;
 use session::Session;
 use text::hex_digit;
@@ -27,7 +25,8 @@ ghost use Rattle.session.specs.Session.{openedOf};
 ghost use Rattle.text.specs.Typing.{typed};
 ghost use Rattle.rides.specs.Replay.{replayOf};
 ghost use Rattle.printed_replay.specs.Word.{mostQuota, quotaIn};
-ghost use Rattle.printed_replay.specs.Quotas.{heading, startOn, begunText, startText, ranLine, refusedAtLine, isRefused, replayedText, quotaText, placeAfter};
+ghost use Rattle.printed.specs.Printed.{startOn};
+ghost use Rattle.printed_replay.specs.Quotas.{heading, begunText, startText, ranLine, refusedAtLine, isRefused, replayedText, quotaText, placeAfter};
 
 const BLANK: u8 = 0x20;
 
@@ -54,17 +53,6 @@ pub fn print_heading(out: &mut [u8]) -> usize
 pub struct Begun {
     pub opened: Opened,
     pub length: usize,
-}
-
-// The session that the recording starts on this card, or the refusal of the reader or of the start.
-fn start_on(card: &[u8], recording: &[u8]) -> Opened
-    ensures { λ r. ⌜ openedOf r ≡ startOn (now (card .entry)) (now (recording .entry)) ⌝ }
-{
-    let reading = card::read(card, HIGHEST);
-    match reading {
-        Reading::Read(settings) => start(settings, recording),
-        Reading::Refused(why) => Opened::Refused(why),
-    }
 }
 
 fn put_begun(opened: Opened, out: &mut [u8], at: usize) -> usize

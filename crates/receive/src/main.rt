@@ -10,6 +10,7 @@ ghost use mathlib.Core.Path.{_≡_};
 ghost use lib.ListN.{length};
 ghost use Rattle.receive.specs.Size.{nextSize, sizeIn};
 use printed::Columns;
+use printed::Form;
 use printed_pieces::Printed;
 use printed_pieces::print_end;
 use printed_pieces::print_piece;
@@ -160,7 +161,7 @@ fn main() {
         return;
     }
     let mut space = io::buffer();
-    let card = ride_shell::card_below(Columns::Paper, &mut space);
+    let card = ride_shell::card_below(Form::Answers(Columns::Paper), &mut space);
     let n = card.length;
     if card.is_read {
         say_below(&space[..n], card.heading, size);

@@ -11,6 +11,7 @@ use case_lines::behind;
 use case_lines::unhex;
 use leaf::byte_at;
 use printed::Columns;
+use printed::Form;
 use printed::print_heading;
 use printed_pieces::Printed;
 use printed_pieces::print_end;
@@ -223,7 +224,7 @@ fn start(way: Way, card: &[u8], h: usize, word: &[u8]) {
 // The card from this place of the line on, and the word behind it.
 fn start_at(way: Way, line: &[u8], from: usize) {
     let mut space = io::large_buffer();
-    let h = print_heading(Columns::Paper, &mut space);
+    let h = print_heading(Form::Answers(Columns::Paper), &mut space);
     let card = unhex(line, from, &mut space);
     let n = card.length;
     let word = behind(line, from, b' ');

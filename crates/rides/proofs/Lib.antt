@@ -3,3 +3,4 @@ pub mod Runs
 pub mod Replays
 pub mod Refusals
 pub mod Determined
+pub mod Whys

@@ -1,3 +1,4 @@
 pub mod Recording
 pub mod Ride
+pub mod Why
 pub mod Replay

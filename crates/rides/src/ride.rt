@@ -5,14 +5,17 @@ use card::Settings;
 use leaf::Refusal;
 use leaf::byte_at;
 use session::Opened;
-use session::Outcome;
 use session::Sample;
 use session::Session;
+use session::Told;
+use session::Why;
 use step::Answer;
+use step::speed::Reason;
 ghost use mathlib.Core.Path.{_≡_};
 ghost use Rattle.session.specs.Session.{openedOf};
 ghost use Rattle.rides.specs.Recording.{sampleAt};
-ghost use Rattle.rides.specs.Ride.{startRide, freshRide, numberOf, toldOf, turnOf, turnAt, shownOf, turnShows};
+ghost use Rattle.rides.specs.Ride.{startRide, freshRide, numberOf, turnOf, turnAt, shownOf, turnShows};
+ghost use Rattle.rides.specs.Why.{noWhy, explainedBy, explainedOf, explainedAt};
 
 // The session after the samples run, and the number of the refusal that ended the ride, 0 while none has.
 pub struct Ride {
@@ -30,6 +33,12 @@ pub enum Shown {
 pub struct Turned {
     pub ride: Ride,
     pub shown: Shown,
+}
+
+// A turn, and why the S that it shows is what it is; where it shows no answer there is no reason, and all is 0.
+pub struct Explained {
+    pub turned: Turned,
+    pub why: Why,
 }
 
 // A refusal's number, without its place.
@@ -54,25 +63,47 @@ pub fn start(settings: Settings, recording: &[u8]) -> Opened
     Opened::Refused(Refusal::Number(14))
 }
 
-fn told(session: Session, outcome: Outcome) -> Turned
-    ensures { λ r. ⌜ r ≡ toldOf session outcome ⌝ }
+fn no_why() -> Why
+    ensures { λ r. ⌜ r ≡ noWhy ⌝ }
 {
-    match outcome {
-        Outcome::Answered(a) => Turned {
-            ride: Ride {
-                session: session,
-                ended: 0,
-            },
-            shown: Shown::Answered(a),
-        },
-        Outcome::Refused(why) => {
-            let n = number_of(why);
-            Turned {
-                ride: Ride {
-                    session: session,
-                    ended: n,
+    Why {
+        reason: Reason::None,
+        speed: 0,
+        age: 0,
+        cause: 0,
+        since: 0,
+    }
+}
+
+fn explain(session: Session, told: Told) -> Explained
+    ensures { λ r. ⌜ r ≡ explainedBy session told ⌝ }
+{
+    match told {
+        Told::Reasoned(reasoned) => {
+            let answer = reasoned.answer;
+            let why = reasoned.why;
+            Explained {
+                turned: Turned {
+                    ride: Ride {
+                        session: session,
+                        ended: 0,
+                    },
+                    shown: Shown::Answered(answer),
                 },
-                shown: Shown::Refused(n),
+                why: why,
+            }
+        }
+        Told::Refused(why) => {
+            let n = number_of(why);
+            Explained {
+                turned: Turned {
+                    ride: Ride {
+                        session: session,
+                        ended: n,
+                    },
+                    shown: Shown::Refused(n),
+                },
+                why: no_why(),
             }
         }
     }
@@ -89,23 +120,41 @@ impl Ride {
         }
     }
 
-    // One more sample. A ride that has ended stays as it is.
-    pub fn turn(self, x: Sample) -> Turned
-        ensures { λ r. ⌜ r ≡ turnOf self x ⌝ }
-        ensures { λ r. ⌜ shownOf (r .shown) ≡ turnShows self x ⌝ }
+    // One more sample, and why. A ride that has ended stays as it is.
+    pub fn turn_asking(self, x: Sample) -> Explained
+        ensures { λ r. ⌜ r ≡ explainedOf self x ⌝ }
     {
         let going = self.ended == 0;
         if going {
             let session = self.session;
-            let sampled = session.sample(x);
-            let next = sampled.session;
-            let outcome = sampled.outcome;
-            return told(next, outcome);
+            let asked = session.ask(x);
+            let next = asked.session;
+            let told = asked.told;
+            return explain(next, told);
         }
-        Turned {
-            ride: self,
-            shown: Shown::Nothing,
+        Explained {
+            turned: Turned {
+                ride: self,
+                shown: Shown::Nothing,
+            },
+            why: no_why(),
         }
+    }
+
+    // The same of the recording's sample that k samples stand before. Past its end a byte reads as 0.
+    pub fn turn_asking_at(self, recording: &[u8], k: u16) -> Explained
+        ensures { λ r. ⌜ r ≡ explainedAt self (now (recording .entry)) k ⌝ }
+    {
+        self.turn_asking(sample_at(recording, k))
+    }
+
+    // One more sample.
+    pub fn turn(self, x: Sample) -> Turned
+        ensures { λ r. ⌜ r ≡ turnOf self x ⌝ }
+        ensures { λ r. ⌜ shownOf (r .shown) ≡ turnShows self x ⌝ }
+    {
+        let explained = self.turn_asking(x);
+        explained.turned
     }
 
     // The turn of the recording's sample that k samples stand before. Past its end a byte reads as 0.

@@ -1,4 +1,5 @@
 pub mod Runs
+pub mod Asking
 pub mod Paper
 pub mod Determined
 pub mod Opening

@@ -1,3 +1,4 @@
 pub mod Types
 pub mod Session
+pub mod Why
 pub mod Runs

@@ -1,4 +1,5 @@
-// A session: settings, train type and desk. Opening makes one; each sample hands it in and hands it back with the answer.
+// A session: settings, train type and desk. Opening makes one; each sample hands it in and hands it back with the answer, and where it is
+// asked with the reason of the answer's S.
 //
 // No function has a `requires`. A session, or a sample, that document 01 refuses is refused by its number, and the session
 // handed in comes back unchanged.
@@ -6,6 +7,7 @@ use card::Checked;
 use card::Settings;
 use card::check;
 use card::is_in_range;
+use desk::brake::Brake;
 use desk::ranges::desk_inside;
 use desk::state::Desk;
 use leaf::BUTTONS_TOP;
@@ -14,11 +16,15 @@ use leaf::Refusal;
 use leaf::or_fault;
 use step::Answer;
 use step::Input;
+use step::speed::Reason;
+use step::speed::Standing;
+use step::speed::reason_at;
 use step::step;
 ghost use mathlib.Core.Path.{_≡_};
 ghost use Prim.Native.Nat.{_*_};
 ghost use Rattle.session.specs.Types.{typeSpeed, typeAllowed};
-ghost use Rattle.session.specs.Session.{freshSession, openedOf, openSession, insideOf, refusedBy, carried, stepped, sampledAs, sampleOf, outcomeOf, answerTo};
+ghost use Rattle.session.specs.Session.{freshSession, openedOf, openSession, insideOf, refusedBy, carried, stepped, sampleOf, outcomeOf, answerTo};
+ghost use Rattle.session.specs.Why.{whyFrom, whyNow, askedFrom, askedOf, sampledFrom};
 
 // Opening takes no version: settings are judged as beside this one.
 pub const OPENING_VERSION: u8 = 2;
@@ -53,6 +59,66 @@ pub enum Outcome {
 pub struct Sampled {
     pub session: Session,
     pub outcome: Outcome,
+}
+
+// Why S is what it is: the value, hundredths of km/h, and age of the limit that sets it; the cause that stands (0: the brake is off), and how
+// many samples ago the brake came on; and which limit it is, last in memory, where a ride that prints no reason pays least.
+pub struct Why {
+    pub speed: u32,
+    pub age: u16,
+    pub cause: u8,
+    pub since: u16,
+    pub reason: Reason,
+}
+
+// What an accepted sample is answered with, and why.
+pub struct Reasoned {
+    pub answer: Answer,
+    pub why: Why,
+}
+
+pub enum Told {
+    Reasoned(Reasoned),
+    Refused(Refusal),
+}
+
+// The session after a sample, beside what is told of it; where it is refused, the session handed in.
+pub struct Asked {
+    pub session: Session,
+    pub told: Told,
+}
+
+// Of the limit that sets S, and the brake.
+fn why_from(named: Standing, brake: Brake) -> Why
+    ensures { λ r. ⌜ r ≡ whyFrom named brake ⌝ }
+{
+    let reason = named.reason;
+    Why {
+        reason: reason,
+        speed: named.speed,
+        age: named.age,
+        cause: brake.cause,
+        since: brake.age,
+    }
+}
+
+// What is told, without the reason.
+fn answered(session: Session, told: Told) -> Sampled
+    ensures { λ r. ⌜ r ≡ sampledFrom session told ⌝ }
+{
+    match told {
+        Told::Reasoned(reasoned) => {
+            let answer = reasoned.answer;
+            Sampled {
+                session: session,
+                outcome: Outcome::Answered(answer),
+            }
+        }
+        Told::Refused(why) => Sampled {
+            session: session,
+            outcome: Outcome::Refused(why),
+        },
+    }
 }
 
 // T of a train type, km/h; 0 where there is no such type.
@@ -155,9 +221,9 @@ impl Session {
         }
     }
 
-    // The sample is run: the session after it, and its answer.
-    fn run(self, x: Input) -> Sampled
-        ensures { λ r. ⌜ r ≡ sampledAs self (stepped self x) ⌝ }
+    // The sample is run: the session after it, its answer, and why.
+    fn run(self, x: Input) -> Asked
+        ensures { λ r. ⌜ r ≡ askedFrom self (stepped self x) ⌝ }
     {
         let settings = self.settings;
         let desk = self.desk;
@@ -165,13 +231,34 @@ impl Session {
         let stepped = step(desk, settings, top, x);
         let next = stepped.desk;
         let answer = stepped.answer;
-        Sampled {
+        let named = stepped.named;
+        let brake = next.brake;
+        Asked {
             session: Session {
                 settings: settings,
                 train: self.train,
                 desk: next,
             },
-            outcome: Outcome::Answered(answer),
+            told: Told::Reasoned(Reasoned {
+                answer: answer,
+                why: why_from(named, brake),
+            }),
+        }
+    }
+
+    // One sample, and why its answer's S is what it is.
+    pub fn ask(self, x: Sample) -> Asked
+        ensures { λ r. ⌜ r ≡ askedOf self x ⌝ }
+    {
+        let number = self.refusal(x);
+        let accepted = number == 0;
+        if accepted {
+            self.run(self.carry(x))
+        } else {
+            Asked {
+                session: self,
+                told: Told::Refused(Refusal::Number(number)),
+            }
         }
     }
 
@@ -180,15 +267,20 @@ impl Session {
         ensures { λ r. ⌜ r ≡ sampleOf self x ⌝ }
         ensures { λ r. ⌜ outcomeOf (r .outcome) ≡ answerTo self x ⌝ }
     {
-        let number = self.refusal(x);
-        let accepted = number == 0;
-        if accepted {
-            self.run(self.carry(x))
-        } else {
-            Sampled {
-                session: self,
-                outcome: Outcome::Refused(Refusal::Number(number)),
-            }
-        }
+        let asked = self.ask(x);
+        let session = asked.session;
+        let told = asked.told;
+        answered(session, told)
+    }
+
+    // Why S is what it is in this session, as the last sample left it.
+    pub fn why_now(self) -> Why
+        ensures { λ r. ⌜ r ≡ whyNow self ⌝ }
+    {
+        let settings = self.settings;
+        let desk = self.desk;
+        let brake = desk.brake;
+        let top = leaf::hundredths(type_speed(self.train));
+        why_from(reason_at(desk, settings, top), brake)
     }
 }

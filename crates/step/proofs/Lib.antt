@@ -1,1 +1,3 @@
 pub mod Lowest
+pub mod Least
+pub mod Reasons

@@ -1,4 +1,5 @@
--- Document 01, "Controls": the brake and the lamps. Document 02 c): the alarm of a quiet pickup.
+-- Document 01, "Controls": the brake and the lamps. Document 02 c): the alarm of a quiet pickup. Document 02 f): how
+-- many samples ago the brake came on.
 use Prim.Native.Nat.{ℕ, min}
 use mathlib.Core.Bool.{Bool, true, false, _&&_, _||_, not}
 use lib.Dec.{eqb}
@@ -22,9 +23,15 @@ lowest a b = pick (eqb a 0) b (pick (eqb b 0) a (min a b))
 unfoldable pub standingCause : ℕ → ℕ → Bool → ℕ
 standingCause before arose rearm = pick (eqb arose 0) (pick rearm 0 before) (pick (eqb before 0) arose before)
 
--- the brake's step, which every accepted sample passes: the cause that stands after it, and 02 b's count with this sample
+-- 02 f: on before a sample and after it, the brake stays on through it: "later causes do not restart it" (f7)
+abbrev pub staysOn : ℕ → ℕ → Bool
+staysOn before after = not (eqb before 0) && not (eqb after 0)
+
+-- the brake's step, which every accepted sample passes: the cause that stands after it, 02 b's count with this sample, and 02 f's age
 unfoldable pub braked : ℕ → Bool → ℕ → Desk → Desk
-braked arose rearm pulses d = withBrake (brakeAfter (standingCause (d .brake .cause) arose rearm) pulses (d .brake)) d
+braked arose rearm pulses d =
+    let cause : ℕ = standingCause (d .brake .cause) arose rearm in
+    withBrake (brakeAfter cause (staysOn (d .brake .cause) cause) pulses (d .brake)) d
 
 -- "Lamps, bits as buttons:"
 abbrev pub lampIf : Bool → ℕ → ℕ

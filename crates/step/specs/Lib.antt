@@ -1,3 +1,4 @@
 pub mod Speed
+pub mod Reason
 pub mod Brake
 pub mod Step

@@ -20,6 +20,8 @@ use Rattle.desk.specs.declared.beside.Beside.{Beside}
 use Rattle.desk.specs.declared.state.Desk.{Desk}
 use Rattle.desk.specs.State.{withCrossing}
 use Rattle.curve.specs.Curve.{rowSpeed}
+use Rattle.step.specs.declared.speed.Reason.{Reason}
+use Rattle.step.specs.declared.speed.Reason.the-variants as reason
 use Rattle.step.specs.declared.speed.Standing.{Standing}
 
 -- the crossing's turn, in the speed step, before S is taken
@@ -39,37 +41,37 @@ mainSpeed BeforeStop c s top = rowSpeed (s .«before_stop») (c .age)
 mainSpeed Stop c s top = stopSpeed (c .increased) top
 mainSpeed Zone c s top = 1000
 
--- ---- a limit: whether it stands, hundredths of km/h, and its age
+-- ---- a limit: which one it is, whether it stands, hundredths of km/h, and its age
 
 -- one that does not stand
 abbrev pub none : Standing
-none = record { stands = false; speed = 0; age = 0 }
+none = record { reason = reason.None; stands = false; speed = 0; age = 0 }
 
 -- a limit of this speed and age, where it stands
-abbrev pub standing : Bool → ℕ → ℕ → Standing
-standing on speed age = pick on (record { stands = true; speed = speed; age = age }) none
+abbrev pub standing : Reason → Bool → ℕ → ℕ → Standing
+standing why on speed age = pick on (record { reason = why; stands = true; speed = speed; age = age }) none
 
 -- vmax and T always stand, BTS speed in BTS; they have no age
-abbrev pub alwaysAt : ℕ → Standing
-alwaysAt speed = standing true speed 0
+abbrev pub alwaysAt : Reason → ℕ → Standing
+alwaysAt why speed = standing why true speed 0
 
 unfoldable pub btsLimit : Bool → ℕ → Standing
-btsLimit bts speed = standing bts (speed * 100) 0
+btsLimit bts speed = standing reason.Bts bts (speed * 100) 0
 
 unfoldable pub mainLimit : Settings → ℕ → Main → Standing
-mainLimit s top c = standing (limitsOf (c .kind)) (mainSpeed (c .kind) c s top) (c .age)
+mainLimit s top c = standing reason.Main (limitsOf (c .kind)) (mainSpeed (c .kind) c s top) (c .age)
 
 -- the stop that stays alongside
 unfoldable pub alongsideLimit : ℕ → Alongside → Standing
-alongsideLimit top a = standing (a .on) (stopSpeed (a .increased) top) (a .age)
+alongsideLimit top a = standing reason.Alongside (a .on) (stopSpeed (a .increased) top) (a .age)
 
 -- row 5, or protected
 unfoldable pub crossingLimit : Row → ℕ → Crossing → Standing
-crossingLimit row top c = standing (stands (c .kind)) (crossingSpeed (c .kind) (rowSpeed row (c .age)) top) (c .age)
+crossingLimit row top c = standing reason.Crossing (stands (c .kind)) (crossingSpeed (c .kind) (rowSpeed row (c .age)) top) (c .age)
 
 -- row 6, with its steps
 unfoldable pub limitLimit : Row → ℕ → Limit → Standing
-limitLimit row top l = standing (l .on) (limitSpeed (rowSpeed row (l .age)) (row .last) top l) (l .age)
+limitLimit row top l = standing reason.Limit (l .on) (limitSpeed (rowSpeed row (l .age)) (row .last) top l) (l .age)
 
 -- ---- all of them, in their order: vmax, T, BTS speed, main, stop alongside, crossing, limit
 
@@ -78,7 +80,7 @@ limitsBeside s top b = alongsideLimit top (b .alongside) ∷ crossingLimit (s .c
 
 abbrev pub limits : Settings → ℕ → Desk → List Standing
 limits s top d =
-    alwaysAt (s .vmax * 100) ∷ alwaysAt top ∷ btsLimit (d .bts) (s .bts) ∷ mainLimit s top (d .main) ∷ limitsBeside s top (d .beside)
+    alwaysAt reason.Vmax (s .vmax * 100) ∷ alwaysAt reason.Train top ∷ btsLimit (d .bts) (s .bts) ∷ mainLimit s top (d .main) ∷ limitsBeside s top (d .beside)
 
 -- ---- "the least"
 

@@ -20,6 +20,7 @@ use Rattle.desk.specs.Clock.{begun}
 use Rattle.buttons.specs.Buttons.{pressesOf}
 use Rattle.beacons.specs.Beacons.{beaconTaken}
 use Rattle.step.specs.Speed.{crossingTurned, supervisedOf}
+use Rattle.step.specs.Reason.{reasonOf}
 use Rattle.step.specs.Brake.{lowest, braked, lampsOf}
 
 -- mode, ages and misses, buttons, beacon
@@ -54,7 +55,7 @@ quietCause code bts = pick (eqb code quietCode && not bts) 6 0
 unfoldable pub aroseOf : ℕ → ℕ → ℕ → ℕ → Bool → ℕ
 aroseOf cause m speed code bts = lowest (lowest cause (speedCause m speed)) (quietCause code bts)
 
--- Speed, then the brake, and the answer as the desk is at the sample's end. 02 b: "Rearm, its lamp and the mode change all use it", standstill.
+-- Speed, then the brake, and the answer as the desk is at the sample's end; 02 f: "which standing limit sets S". 02 b: "Rearm, its lamp and the mode change all use it", standstill.
 unfoldable pub judgedOf : Settings → ℕ → Input → ℕ → Desk → Stepped
 judgedOf s top x cause d =
     let turned : Desk = crossingTurned (x .m) d in
@@ -62,7 +63,7 @@ judgedOf s top x cause d =
     let arose : ℕ = aroseOf cause (x .m) speed (x .beacon) (x .bts) in
     let still : Bool = standstill (x .pulses) (turned .brake) in
     let after : Desk = braked arose (still && bitOf (x .buttons) rearmButton) (x .pulses) turned in
-    record { desk = after; arose = arose; answer = answerOf s top (x .m) still speed after }
+    record { desk = after; arose = arose; answer = answerOf s top (x .m) still speed after; named = reasonOf s top turned }
 
 unfoldable pub stepOf : Settings → ℕ → Input → Desk → Stepped
 stepOf s top x d = judgedOf s top x (movedOf s top x d .cause) (movedOf s top x d .desk)

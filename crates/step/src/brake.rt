@@ -35,7 +35,9 @@ pub fn put_brake(d: Desk, arose: u8, rearm: bool, pulses: u16) -> Desk
     ensures { λ r. ⌜ r ≡ braked arose rearm pulses d ⌝ }
 {
     let brake = d.brake;
-    d.with_brake(brake.after(standing_cause(brake.cause, arose, rearm), pulses))
+    let cause = standing_cause(brake.cause, arose, rearm);
+    let stays = !(brake.cause == 0) & !(cause == 0);
+    d.with_brake(brake.after(cause, stays, pulses))
 }
 
 // What the windows and beacon 3's option wait for.

@@ -15,7 +15,8 @@ use desk::state::Desk;
 use leaf::QUIET_CODE;
 use leaf::button;
 use leaf::has_bit;
-use speed::supervised;
+use speed::Standing;
+use speed::reason_at;
 use speed::too_fast;
 use speed::turn_crossing;
 ghost use mathlib.Core.Path.{_≡_};
@@ -39,11 +40,12 @@ pub struct Answer {
     pub limit: bool,
 }
 
-// The next desk, the lowest cause that arose in the sample (0 none), and the answer.
+// The next desk, the lowest cause that arose in the sample (0 none), the answer, and the limit that sets its S.
 pub struct Stepped {
     pub desk: Desk,
     pub arose: u8,
     pub answer: Answer,
+    pub named: Standing,
 }
 
 // Mode, ages and misses, buttons, beacon.
@@ -109,7 +111,8 @@ fn judged(d: Desk, settings: Settings, top: u32, x: Input, cause: u8) -> Stepped
     ensures { λ r. ⌜ r ≡ judgedOf settings top x cause d ⌝ }
 {
     let turned = turn_crossing(d, x.m);
-    let speed = supervised(turned, settings, top);
+    let named = reason_at(turned, settings, top);
+    let speed = named.speed;
     let arose = arose_at(cause, x.m, speed, x.beacon, x.bts);
     let brake = turned.brake;
     let still = brake.at_standstill(x.pulses);
@@ -119,6 +122,7 @@ fn judged(d: Desk, settings: Settings, top: u32, x: Input, cause: u8) -> Stepped
         desk: braked,
         arose: arose,
         answer: answer_at(braked, settings, top, x.m, still, speed),
+        named: named,
     }
 }
 

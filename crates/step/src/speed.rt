@@ -14,12 +14,44 @@ ghost use mathlib.Core.Path.{_≡_};
 ghost use mathlib.Core.Bool.{true};
 ghost use Prim.Native.Nat.{_+_};
 ghost use Rattle.leaf.specs.Numbers.{exceedsOf};
-ghost use Rattle.step.specs.Speed.{crossingTurned, mainSpeed, none, standing, lower, btsLimit, mainLimit, alongsideLimit, crossingLimit, limitLimit, leastOf, limitsBeside, supervisedOf};
+ghost use Rattle.step.specs.Speed.{crossingTurned, mainSpeed, none, standing, lower, btsLimit, mainLimit, alongsideLimit, crossingLimit, limitLimit, leastOf, limitsBeside, limits};
+ghost use Rattle.step.specs.Reason.{reasonNumber, reasonOf};
 
-// A limit: does it stand, hundredths of km/h, and its age. One that does not stand has 0 for both.
+// Which limit it is, in the order in which equal ones are named: vmax, T of the train type, BTS speed, the main control, the stop that stays
+// alongside, the crossing, the limit.
+pub enum Reason {
+    None,
+    Vmax,
+    Train,
+    Bts,
+    Main,
+    Alongside,
+    Crossing,
+    Limit,
+}
+
+// The number of a reason, 1..7, 0 for none.
+pub fn reason_number(reason: Reason) -> u8
+    ensures { λ r. ⌜ r ≡ reasonNumber reason ⌝ }
+{
+    match reason {
+        Reason::None => 0,
+        Reason::Vmax => 1,
+        Reason::Train => 2,
+        Reason::Bts => 3,
+        Reason::Main => 4,
+        Reason::Alongside => 5,
+        Reason::Crossing => 6,
+        Reason::Limit => 7,
+    }
+}
+
+// A limit: does it stand, hundredths of km/h, which one it is, and its age. One that does not stand is none, with 0 for both numbers. The
+// order in memory is that at which a sample costs least (tests/cost).
 pub struct Standing {
     pub stands: bool,
     pub speed: u32,
+    pub reason: Reason,
     pub age: u16,
 }
 
@@ -28,6 +60,7 @@ impl Standing {
         ensures { λ r. ⌜ r ≡ none ⌝ }
     {
         Standing {
+            reason: Reason::None,
             stands: false,
             speed: 0,
             age: 0,
@@ -35,10 +68,11 @@ impl Standing {
     }
 
     // A limit that stands.
-    fn at(speed: u32, age: u16) -> Standing
-        ensures { λ r. ⌜ r ≡ standing true speed age ⌝ }
+    fn at(reason: Reason, speed: u32, age: u16) -> Standing
+        ensures { λ r. ⌜ r ≡ standing reason true speed age ⌝ }
     {
         Standing {
+            reason: reason,
             stands: true,
             speed: speed,
             age: age,
@@ -104,7 +138,7 @@ fn bts_limit(bts: bool, speed: u8) -> Standing
     ensures { λ r. ⌜ r ≡ btsLimit bts speed ⌝ }
 {
     if bts {
-        return Standing::at(leaf::hundredths(speed), 0);
+        return Standing::at(Reason::Bts, leaf::hundredths(speed), 0);
     }
     Standing::none()
 }
@@ -114,7 +148,7 @@ fn main_limit(main: Main, settings: Settings, top: u32) -> Standing
 {
     let stands = main.limits();
     if stands {
-        return Standing::at(main_speed(main, settings, top), main.age);
+        return Standing::at(Reason::Main, main_speed(main, settings, top), main.age);
     }
     Standing::none()
 }
@@ -123,7 +157,11 @@ fn alongside_limit(alongside: Alongside, top: u32) -> Standing
     ensures { λ r. ⌜ r ≡ alongsideLimit top alongside ⌝ }
 {
     if alongside.on {
-        return Standing::at(stop_speed(alongside.increased, top), alongside.age);
+        return Standing::at(
+            Reason::Alongside,
+            stop_speed(alongside.increased, top),
+            alongside.age,
+        );
     }
     Standing::none()
 }
@@ -134,6 +172,7 @@ fn crossing_limit(crossing: Crossing, row: Row, top: u32) -> Standing
     let stands = crossing.is_standing();
     if stands {
         return Standing::at(
+            Reason::Crossing,
             crossing.speed(row_speed(row, crossing.age), top),
             crossing.age,
         );
@@ -146,6 +185,7 @@ fn limit_limit(limit: Limit, row: Row, top: u32) -> Standing
 {
     if limit.on {
         return Standing::at(
+            Reason::Limit,
             limit.speed(row_speed(row, limit.age), row.last, top),
             limit.age,
         );
@@ -168,19 +208,25 @@ fn or_beside(lowest: Standing, beside: Beside, settings: Settings, top: u32) -> 
         .or_lower(limit_limit(limit, limit_row, top))
 }
 
-// S, hundredths of km/h.
-pub fn supervised(d: Desk, settings: Settings, top: u32) -> u32
-    ensures { λ r. ⌜ r ≡ supervisedOf settings top d ⌝ }
+// The lowest of the limits that stand, of equal ones the first.
+fn lowest_limit(d: Desk, settings: Settings, top: u32) -> Standing
+    ensures { λ r. ⌜ r ≡ leastOf none (limits settings top d) ⌝ }
 {
     let main = d.main;
     let beside = d.beside;
     let lowest = Standing::none()
-        .or_lower(Standing::at(leaf::hundredths(settings.vmax), 0))
-        .or_lower(Standing::at(top, 0))
+        .or_lower(Standing::at(Reason::Vmax, leaf::hundredths(settings.vmax), 0))
+        .or_lower(Standing::at(Reason::Train, top, 0))
         .or_lower(bts_limit(d.bts, settings.bts))
         .or_lower(main_limit(main, settings, top));
-    let least = or_beside(lowest, beside, settings, top);
-    least.speed
+    or_beside(lowest, beside, settings, top)
+}
+
+// The limit that sets S, whose speed is S: the first of those that stand and equal it.
+pub fn reason_at(d: Desk, settings: Settings, top: u32) -> Standing
+    ensures { λ r. ⌜ r ≡ reasonOf settings top d ⌝ }
+{
+    lowest_limit(d, settings, top)
 }
 
 // Is a speed of m mm/s more than 5 km/h over s hundredths of km/h.

@@ -12,12 +12,12 @@ use Rattle.leaf.specs.Buttons.{rearmButton}
 use Rattle.card.specs.declared.Settings.{Settings}
 use Rattle.desk.specs.declared.brake.Brake.{Brake}
 use Rattle.desk.specs.declared.state.Desk.{Desk}
-use Rattle.desk.specs.Brake.{standingTime, stoodAfter, standstill}
+use Rattle.desk.specs.Brake.{standingTime, stoodAfter, standstill, brakeAge}
 use Rattle.step.specs.declared.Input.{Input}
 use Rattle.step.specs.Speed.{crossingTurned}
-use Rattle.step.specs.Brake.{standingCause, braked}
+use Rattle.step.specs.Brake.{standingCause, staysOn, braked}
 use Rattle.step.specs.Step.{judgedOf, answerOf, stepOf}
-use Rattle.step_laws.specs.Brake.{AtStandstill, rearms, causeAfter, causeArose, stoodThen, BrakeLaws}
+use Rattle.step_laws.specs.Brake.{AtStandstill, rearms, causeAfter, causeArose, stoodThen, ageThen, BrakeLaws}
 use Rattle.step_laws.proofs.Carried.{carried-laws}
 use Rattle.step_laws.proofs.Causes.{arose-in}
 use Rattle.step_laws.proofs.Lamps.{lamp-rearm}
@@ -118,6 +118,10 @@ module _ (s : Settings) (top : ℕ) (x : Input) (d : Desk) where
   unfolding stepOf judgedOf braked crossingTurned
   stood-then = rw (carried-laws s top x d .to-brake)
 
+  age-then : ageThen s top x d ≡ brakeAge (staysOn (d .brake .cause) after) (d .brake .age)
+  unfolding stepOf judgedOf braked crossingTurned
+  age-then = rw (carried-laws s top x d .to-brake)
+
   -- the lamp, on numbers
   lit : bitOf (stepOf s top x d .answer .lamps) rearmButton ≡ (standstill (x .pulses) (d .brake) && not (eqb after 0))
   unfolding stepOf judgedOf answerOf crossingTurned
@@ -139,6 +143,7 @@ module _ (s : Settings) (top : ℕ) (x : Input) (d : Desk) where
       record {
         standstill-as = standstill-as (x .pulses) (d .brake);
         stood-then = stood-then;
+        age-then = age-then;
         cause-after = cause-after;
         cause-told = cause-told;
         arose-high = arose-in s top x d;

@@ -33,10 +33,10 @@ three-out a m b n c k p q r = rw (le-leb a m p, le-leb b n q, le-leb c k r)
 -- ---- the desk's parts: the brake, and what stands beside the main control
 
 brake-only : (b : Brake) → brakeInside b ≡ true → BrakeIn b
-brake-only b h = let t = two-in (b .cause) causeTop (b .stood) ageTop h in record { cause = t .0; stood = t .1 }
+brake-only b h = let t = three-in (b .cause) causeTop (b .stood) ageTop (b .age) ageTop h in record { cause = t .0; stood = t .1 .0; age = t .1 .1 }
 
 brake-when : (b : Brake) → BrakeIn b → brakeInside b ≡ true
-brake-when b h = two-out (b .cause) causeTop (b .stood) ageTop (h .cause) (h .stood)
+brake-when b h = three-out (b .cause) causeTop (b .stood) ageTop (b .age) ageTop (h .cause) (h .stood) (h .age)
 
 beside-only : (b : Beside) → besideInside b ≡ true → BesideIn b
 unfolding besideInside

@@ -11,6 +11,7 @@ pub mod Presses
 pub mod Unanswered
 pub mod Missed
 pub mod Speed
+pub mod Reason
 pub mod Brake
 pub mod Unseen
 pub mod Quiet

@@ -25,7 +25,7 @@ use Rattle.sides.specs.Crossing.{noCrossing, crossingEnd, iconDistance, isProte
 use Rattle.sides.specs.Limit.{noLimit, limitOlder, limitSet, stepped, hidden}
 use Rattle.desk.specs.declared.brake.Brake.{Brake}
 use Rattle.desk.specs.declared.beside.Beside.{Beside}
-use Rattle.desk.specs.Brake.{stoodAfter, openingBrake, brakeAfter}
+use Rattle.desk.specs.Brake.{stoodAfter, brakeAge, openingBrake, brakeAfter}
 use Rattle.desk.specs.Beside.{nothingBeside, besideWithAlongside, besideWithCrossing, besideWithLimit, besideOlder}
 use Rattle.step_laws.specs.Ranges.{BrakeIn, MainIn, WindowIn, OverrideIn, ReminderIn, OptionIn, AlongsideIn, CrossingIn, LimitIn, BesideIn}
 use Rattle.step_laws.proofs.Choosing.{pick-has, pick-low}
@@ -171,11 +171,16 @@ limit-hidden l h = let s = h .steps in record { age = h .age; steps = omega arit
 -- ---- the desk's parts: the brake, and what stands beside the main control
 
 pub brake-opening : BrakeIn openingBrake
-brake-opening = record { cause = omega arith; stood = omega arith }
+brake-opening = record { cause = omega arith; stood = omega arith; age = omega arith }
 
-pub brake-after : (cause pulses : ℕ) (b : Brake) → cause ≤ causeTop → BrakeIn (brakeAfter cause pulses b)
-unfolding stoodAfter
-brake-after cause pulses b p = record { cause = p; stood = pick-low ageTop (eqb pulses 0) {x = agedOf (b .stood)} {y = 0} (omega arith) (omega arith) }
+pub brake-after : (cause : ℕ) (stays : Bool) (pulses : ℕ) (b : Brake) → cause ≤ causeTop → BrakeIn (brakeAfter cause stays pulses b)
+unfolding stoodAfter brakeAge
+brake-after cause stays pulses b p =
+    record {
+      cause = p;
+      stood = pick-low ageTop (eqb pulses 0) {x = agedOf (b .stood)} {y = 0} (omega arith) (omega arith);
+      age = pick-low ageTop stays {x = agedOf (b .age)} {y = 0} (omega arith) (omega arith);
+    }
 
 pub beside-nothing : BesideIn nothingBeside
 beside-nothing = record { alongside = alongside-none; crossing = crossing-none; limit = limit-none }

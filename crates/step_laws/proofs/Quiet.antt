@@ -23,6 +23,7 @@ use Rattle.beacons.specs.Beacons.{isBeacon, isSide, readsOf, readIf, beaconTake
 use Rattle.step.specs.declared.Input.{Input}
 use Rattle.step.specs.declared.Answer.{Answer}
 use Rattle.step.specs.declared.Stepped.{Stepped}
+use Rattle.step.specs.Reason.{reasonOf}
 use Rattle.step.specs.Speed.{crossingTurned, supervisedOf}
 use Rattle.step.specs.Brake.{lowest, braked, lampIf, buttonLamps, alarmLamp, lampsOf}
 use Rattle.step.specs.Step.{movedOf, answerOf, quietCause, aroseOf, judgedOf, stepOf}
@@ -171,7 +172,7 @@ module _ (s : Settings) (top : ℕ) (x : Input) (d : Desk) where
   unfolding stepOf judgedOf aroseOf stepBefore judgedBefore crossingTurned braked
   as-before h =
       ap ended (not-raised (λ e conv. h e))
-      ∙ ap (λ (a : Answer). record { desk = ended before .desk; arose = before; answer = a })
+      ∙ ap (λ (a : Answer). record { desk = ended before .desk; arose = before; answer = a; named = reasonOf s top turned })
       (answer-as s top (x .m) still speed (ended before .desk) (λ e. h (sym (moved-carries s top x d .1) ∙ e)))
     where
       turned : Desk
@@ -190,7 +191,7 @@ module _ (s : Settings) (top : ℕ) (x : Input) (d : Desk) where
       ended : ℕ → Stepped
       ended arose =
           let after : Desk = braked arose (still && bitOf (x .buttons) rearmButton) (x .pulses) turned in
-          record { desk = after; arose = arose; answer = answerOf s top (x .m) still speed after }
+          record { desk = after; arose = arose; answer = answerOf s top (x .m) still speed after; named = reasonOf s top turned }
 
   stays-low : (x .beacon ≡ 12 → ⊥) → d .brake .cause ≤ 5 → stepOf s top x d .desk .brake .cause ≤ 5
   stays-low h low =

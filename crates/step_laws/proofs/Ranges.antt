@@ -193,7 +193,7 @@ standing-in top before arose rearm p q =
 
 braked-in : (arose : ℕ) (rearm : Bool) (pulses : ℕ) (d : Desk) → arose ≤ causeTop → DeskIn d → DeskIn (braked arose rearm pulses d)
 unfolding braked
-braked-in arose rearm pulses d a h = set-brake h _ (brake-after _ pulses (d .brake) (standing-in causeTop (d .brake .cause) arose rearm (h .brake .cause) a))
+braked-in arose rearm pulses d a h = set-brake h _ (brake-after _ _ pulses (d .brake) (standing-in causeTop (d .brake .cause) arose rearm (h .brake .cause) a))
 
 step-in : (s : Settings) (top : ℕ) (x : Input) (d : Desk) → x .beacon ≤ codeTop → DeskIn d → DeskIn (stepOf s top x d .desk)
 unfolding stepOf judgedOf

@@ -1,6 +1,6 @@
 -- Document 01, "Controls": "Any cause puts the brake on; the first stands, lowest number within a sample. It goes off in a standstill sample
--- with rearm, if on before and no cause arises."; "10 when braked at standstill"; document 02 b), what standstill is. Of every sample of every
--- desk.
+-- with rearm, if on before and no cause arises."; "10 when braked at standstill"; document 02 b), what standstill is; document 02 f), how many
+-- samples ago the brake came on. Of every sample of every desk.
 use Prim.Native.Nat.{ℕ, _≤_}
 use mathlib.Core.Path.{_≡_}
 use mathlib.Core.Bool.{Bool, true, _&&_}
@@ -12,9 +12,9 @@ use Rattle.leaf.specs.Buttons.{rearmButton}
 use Rattle.card.specs.declared.Settings.{Settings}
 use Rattle.desk.specs.declared.brake.Brake.{Brake}
 use Rattle.desk.specs.declared.state.Desk.{Desk}
-use Rattle.desk.specs.Brake.{stoodAfter, standstill}
+use Rattle.desk.specs.Brake.{stoodAfter, standstill, brakeAge}
 use Rattle.step.specs.declared.Input.{Input}
-use Rattle.step.specs.Brake.{standingCause}
+use Rattle.step.specs.Brake.{standingCause, staysOn}
 use Rattle.step.specs.Step.{stepOf}
 
 -- 02 b: "standstill is ten accepted samples running without pulses, this one included": it has none, and of those before it nine or more
@@ -39,10 +39,16 @@ module _ (s : Settings) (top : ℕ) (x : Input) (d : Desk) where
   abbrev pub stoodThen : ℕ
   stoodThen = stepOf s top x d .desk .brake .stood
 
+  -- 02 f: the age of the brake after the sample
+  abbrev pub ageThen : ℕ
+  ageThen = stepOf s top x d .desk .brake .age
+
   pub record BrakeLaws : Type 0 where
     -- 02 b: the sample is one at standstill exactly when the facts hold, and the count goes on with every sample
     pub standstill-as : (standstill (x .pulses) (d .brake) ≡ true) ↔ AtStandstill (x .pulses) (d .brake)
     pub stood-then : stoodThen ≡ stoodAfter (x .pulses) (d .brake .stood)
+    -- 02 f: the brake's age goes by the causes before and after the sample, whatever the mode does
+    pub age-then : ageThen ≡ brakeAge (staysOn (d .brake .cause) causeAfter) (d .brake .age)
     -- the cause after a sample is the rule's, of the cause before, what arose, and rearm; the answer tells it
     pub cause-after : causeAfter ≡ standingCause (d .brake .cause) causeArose (rearms x d)
     pub cause-told : stepOf s top x d .answer .cause ≡ causeAfter

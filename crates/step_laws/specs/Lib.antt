@@ -3,6 +3,7 @@ pub mod Walk
 pub mod Windows
 pub mod Unanswered
 pub mod Speed
+pub mod Reason
 pub mod Brake
 pub mod Unseen
 pub mod Quiet

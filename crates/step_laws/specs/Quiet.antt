@@ -21,6 +21,7 @@ use Rattle.step.specs.declared.Input.{Input}
 use Rattle.step.specs.declared.Answer.{Answer}
 use Rattle.step.specs.declared.Stepped.{Stepped}
 use Rattle.step.specs.Speed.{crossingTurned, supervisedOf}
+use Rattle.step.specs.Reason.{reasonOf}
 use Rattle.step.specs.Brake.{lowest, braked, buttonLamps}
 use Rattle.step.specs.Step.{movedOf, speedCause, stepOf}
 use Rattle.step_laws.specs.Walk.{atBeacon}
@@ -45,7 +46,7 @@ judgedBefore s top x cause d =
     let arose : ℕ = lowest cause (speedCause (x .m) speed) in
     let still : Bool = standstill (x .pulses) (turned .brake) in
     let after : Desk = braked arose (still && bitOf (x .buttons) rearmButton) (x .pulses) turned in
-    record { desk = after; arose = arose; answer = answerBefore s top (x .m) still speed after }
+    record { desk = after; arose = arose; answer = answerBefore s top (x .m) still speed after; named = reasonOf s top turned }
 
 unfoldable pub stepBefore : Settings → ℕ → Input → Desk → Stepped
 stepBefore s top x d = judgedBefore s top x (movedOf s top x d .cause) (movedOf s top x d .desk)

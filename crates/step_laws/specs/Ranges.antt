@@ -26,10 +26,11 @@ use Rattle.step.specs.Step.{stepOf}
 
 -- ---- the facts
 
--- 02 b: the count of samples without pulses, "range 0..30,000" (b5)
+-- 02 b: the count of samples without pulses, "range 0..30,000" (b5); 02 f: the age of the brake, "range 0..30,000" (f8)
 pub record BrakeIn (b : Brake) : Type 0 where
   pub cause : b .cause ≤ causeTop
   pub stood : b .stood ≤ ageTop
+  pub age : b .age ≤ ageTop
 
 pub record MainIn (c : Main) : Type 0 where
   pub age : c .age ≤ ageTop

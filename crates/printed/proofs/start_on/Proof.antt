@@ -1,9 +1,9 @@
 use mathlib.Core.Path.{sym}
 use borrow.Author.Needs.{needs}
-use Rattle.printed_replay.specs.Quotas.{startOn}
-use Rattle.printed_replay.proofs.ReplayTexts.{start-refused}
-use Rattle.printed_replay.proofs.start_on.Statement.{statement}
-use Rattle.printed_replay.proofs.start_on.Tie as tie
+use Rattle.printed.specs.Printed.{startOn}
+use Rattle.printed.proofs.Texts.{start-refused}
+use Rattle.printed.proofs.start_on.Statement.{statement}
+use Rattle.printed.proofs.start_on.Tie as tie
 
 returns : tie.Need-returns
 unfolding startOn

@@ -1,0 +1,3 @@
+pub mod WhyTexts
+pub mod Room
+pub mod Silence
