@@ -76,6 +76,7 @@ struct desk {
     bool bts;
     uint8_t code, cause;
     uint16_t stood; // accepted samples running without pulses
+    uint16_t brake_age; // samples since the brake came on
     struct main_control main;
     struct window window, side;
     struct alongside alongside;

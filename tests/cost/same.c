@@ -47,7 +47,7 @@ uint8_t session_open(struct session *s, const struct settings *settings, uint8_t
 static bool window_inside(const struct window *w) { return w->left <= 30000 && w->age <= 30000 && w->distance <= 60000000; }
 
 static bool desk_inside(const struct desk *d) {
-    return d->code <= 12 && d->cause <= 6 && d->stood <= 30000 && d->main.age <= 30000 && d->main.distance <= 60000000 && window_inside(&d->window) &&
+    return d->code <= 12 && d->cause <= 6 && d->stood <= 30000 && d->brake_age <= 30000 && d->main.age <= 30000 && d->main.distance <= 60000000 && window_inside(&d->window) &&
            window_inside(&d->side) && d->alongside.age <= 30000 && d->armed.age <= 30000 && d->reminder.age <= 30000 &&
            d->reminder.fast <= 30000 && d->reminder.distance <= 60000000 && d->crossing.age <= 30000 && d->crossing.distance <= 60000000 &&
            d->option.age <= 30000 && d->option.distance <= 60000000 && d->limit.age <= 30000 && d->limit.steps <= 8;
@@ -158,7 +158,7 @@ static uint8_t advance(struct desk *d, uint32_t m, const struct settings *s) {
 }
 
 static void change_mode(struct desk *d, bool bts) {
-    *d = (struct desk){.bts = bts, .code = d->code, .cause = d->cause, .stood = d->stood, .main = {.kind = bts ? CLEAR : START}};
+    *d = (struct desk){.bts = bts, .code = d->code, .cause = d->cause, .stood = d->stood, .brake_age = d->brake_age, .main = {.kind = bts ? CLEAR : START}};
 }
 
 // ---- buttons
@@ -383,11 +383,14 @@ uint8_t session_sample(struct session *session, uint16_t pulses, uint8_t beacon,
     uint32_t speed = supervised(d, s, top);
     if (9 * (uint64_t)m > 25 * (uint64_t)(speed + 500)) cause = lowest(cause, 5);
     if (beacon == 12 && !d->bts) cause = lowest(cause, 6);
+    bool braked = d->cause;
     if (cause) {
         if (!d->cause) d->cause = cause;
     } else if (still && buttons & 1024) {
         d->cause = 0;
     }
+    if (braked && d->cause) older(&d->brake_age);
+    else d->brake_age = 0;
     d->stood = stood_after(d, pulses);
 
     answer->speed = speed;
