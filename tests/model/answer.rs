@@ -4,15 +4,21 @@ use crate::desk::{Answer, Main, Reminder, Session, BTS};
 use crate::windows::waits_for;
 
 impl Session {
+    /// The main control's limit; under clear there is none, nor in BTS. The stop zone "sets 10 km/h".
+    pub fn main_value(&self) -> Option<i64> {
+        match self.main {
+            Main::Nothing | Main::Clear => None,
+            Main::Row(row) => Some(self.settings.rows[row].at(self.main_age)),
+            Main::Stop => Some(self.stop_value()),
+            Main::Zone => Some(1000),
+        }
+    }
+
     /// "Supervised speed S, hundredths of km/h, is the least of vmax, T and standing controls; in BTS also BTS speed."
     pub fn supervised(&self) -> i64 {
         let mut s = (100 * self.settings.vmax as i64).min(100 * self.t());
-        match self.main {
-            Main::Nothing | Main::Clear => {}
-            Main::Row(row) => s = s.min(self.settings.rows[row].at(self.main_age)),
-            Main::Stop => s = s.min(self.stop_value()),
-            // The stop zone "sets 10 km/h".
-            Main::Zone => s = s.min(1000),
+        if let Some(value) = self.main_value() {
+            s = s.min(value);
         }
         if let Some(alongside) = self.alongside {
             s = s.min(alongside.value);
@@ -31,13 +37,16 @@ impl Session {
 
     /// "Any cause puts the brake on; the first stands, lowest number within a sample. It goes off in a standstill
     /// sample with rearm, if on before and no cause arises." Standstill is that of 02 b. "The lowest cause of a sample
-    /// stands: 300/12 is 5. On a braked desk 6 only keeps a rearm from working" (c6).
+    /// stands: 300/12 is 5. On a braked desk 6 only keeps a rearm from working" (c6). The brake's age "is 0 when the brake
+    /// comes on and at the rearm" (f8), and on a desk that stays unbraked; "later causes do not restart it" (f7).
     pub fn brake(&mut self) {
         let lowest = self.arisen.iter().copied().min().unwrap_or(0);
         if self.cause == 0 {
             self.cause = lowest;
+            self.brake_age = 0;
         } else if self.standstill && self.rearm && lowest == 0 {
             self.cause = 0;
+            self.brake_age = 0;
         }
     }
 

@@ -1,4 +1,4 @@
-//! Cases of cards, tones, recordings in pieces and replays, a line each, in the notation of tests/compare/README.md: what each
+//! Cases of cards, tones, recordings in pieces, replays and reasons, a line each, in the notation of tests/compare/README.md: what each
 //! is answered with, and what a batch of tones meets.
 
 use crate::card::{self, big_endian};
@@ -6,6 +6,7 @@ use crate::cards::unhex;
 use crate::pieces;
 use crate::replays;
 use crate::tone::{self, Tone};
+use crate::whys;
 use std::io::{self, Write};
 
 /// Each line again with its answer; a comment as it stands, and none for an area.
@@ -22,6 +23,7 @@ pub fn answer(text: &str, out: &mut impl Write) -> io::Result<()> {
             "cuts" => write!(out, "{line}\n{}", pieces::answer_cuts(digits))?,
             "replay" => write!(out, "{line}\n{}", replays::answer_replay(digits))?,
             "splits" => write!(out, "{line}\n{}", replays::answer_splits(digits))?,
+            "why" => write!(out, "{line}\n{}", whys::answer_why(digits))?,
             _ => writeln!(out, "{line}")?,
         }
     }

@@ -1,6 +1,7 @@
 //! The model's own checks: the paper's ride, "Both sides of each line", tones and cards; those of the receiver are in
 //! receive_check.rs, those of standstill in stand_check.rs, those of the quiet pickup in quiet_check.rs, those of replay in
-//! replay_check.rs and replay_laws.rs. tests/compare/run has it print the lessons and the readings too.
+//! replay_check.rs and replay_laws.rs, those of the reason in why_check.rs and why_printed_check.rs. tests/compare/run has it
+//! print the lessons and the readings too.
 
 use crate::card::{self, refused, refused_at, Row, Settings};
 use crate::cards::{unhex, CARD_A, CARD_P, CARD_R, CARD_R2, CARD_RL};
@@ -9,9 +10,11 @@ use crate::quiet_check;
 use crate::receive_check;
 use crate::replay_check;
 use crate::replay_laws;
-use crate::ride::print;
+use crate::ride::{print, More};
 use crate::stand_check;
 use crate::tone::{classify, sheet, Tone};
+use crate::why_check;
+use crate::why_printed_check;
 use std::io::{self, Write};
 
 pub struct Checks {
@@ -46,6 +49,8 @@ pub fn all(out: &mut impl Write) -> io::Result<usize> {
     quiet_check::all(&mut checks);
     replay_check::all(&mut checks);
     replay_laws::all(&mut checks);
+    why_check::all(&mut checks);
+    why_printed_check::all(&mut checks);
     for line in &checks.failed {
         writeln!(out, "failed: {line}")?;
     }
@@ -75,7 +80,7 @@ fn run(session: &mut Session, n: usize, pulses: u16) -> Answer {
 fn papers_ride(checks: &mut Checks) -> io::Result<()> {
     let ride = unhex("000000180106 000000000001 006407000001 006400001001");
     let mut got = Vec::new();
-    print(&unhex(CARD_A), &ride, false, &mut got)?;
+    print(&unhex(CARD_A), &ride, More::No, &mut got)?;
     let wanted = "n limit lamps cause\n1 10000 0 0\n2 8000 16 0\n3 8000 0 0\n";
     checks.equal("the paper's ride", String::from_utf8(got).unwrap(), wanted.to_string());
     let refusals: [(&str, Vec<u8>, Vec<u8>, &str); 6] = [
@@ -88,7 +93,7 @@ fn papers_ride(checks: &mut Checks) -> io::Result<()> {
     ];
     for (name, card, ride, wanted) in refusals {
         let mut got = Vec::new();
-        print(&card, &ride, false, &mut got)?;
+        print(&card, &ride, More::No, &mut got)?;
         let got = String::from_utf8(got).unwrap();
         checks.equal(name, got.lines().last().unwrap(), wanted);
         checks.equal(name, got.lines().next().unwrap(), "n limit lamps cause");

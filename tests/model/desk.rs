@@ -1,5 +1,5 @@
-//! The session and the order of a sample: document 01, "The sample", with standstill as document 02 b has it
-//! and the quiet pickup as 02 c has it.
+//! The session and the order of a sample: document 01, "The sample", with standstill as document 02 b has it,
+//! the quiet pickup as 02 c and the brake's age as 02 f have it.
 
 use crate::card::{Settings, START};
 
@@ -110,6 +110,8 @@ pub struct Session {
     pub train: u8,
     pub mode: u8,
     pub cause: u8,
+    /// "The session gains the age of the brake, stopping at 30,000." (02 f) 0 when it is off (f7).
+    pub brake_age: i64,
     pub last_code: u8,
     /// "The session gains a count" (02 b): the accepted samples running without pulses.
     pub stood: i64,
@@ -168,6 +170,7 @@ impl Session {
             train,
             mode: CONV,
             cause: 0,
+            brake_age: 0,
             last_code: 0,
             stood: STANDING,
             main: Main::Row(START),
@@ -206,9 +209,18 @@ impl Session {
         sample.pulses == 0 && self.stood_with(sample) >= STANDING
     }
 
-    /// "sample 8, 9, 10, 11"; 8 cannot occur, "every session we make is inside". 11: mode changed "while not at
-    /// standstill" (02 b). "9 from code 13" (02 c); "No button 11: buttons above 2047 stay 9." (c7)
+    /// "cause ... in range" (R 46) and the brake's age, "range 0..30,000" (f8), each judged alone. Nothing that makes a session
+    /// here can put anything else out of its ranges but a limit's steps, which replay.rs judges.
+    fn brake_in_range(&self) -> bool {
+        self.cause <= CAUSE_TOP && self.brake_age <= AGE_TOP
+    }
+
+    /// "sample 8, 9, 10, 11"; "every session we make is inside", save by a case that says otherwise. 11: mode changed "while
+    /// not at standstill" (02 b). "9 from code 13" (02 c); "No button 11: buttons above 2047 stay 9." (c7)
     fn refusal(&self, sample: &Sample) -> Option<u8> {
+        if !self.brake_in_range() {
+            return Some(8);
+        }
         if sample.beacon > CODE_TOP || sample.buttons > 0b111_1111_1111 || (sample.mode != CONV && sample.mode != BTS) {
             return Some(9);
         }
@@ -291,6 +303,8 @@ impl Session {
     fn advance(&mut self) {
         let m = self.m;
         let farther = |distance: i64| (distance + m).min(DISTANCE_TOP);
+        // "The brake's age advances with the others" (f8), in a sample that changes the mode too.
+        self.brake_age = older(self.brake_age);
         self.main_age = older(self.main_age);
         self.main_distance = farther(self.main_distance);
         if let Some(alongside) = &mut self.alongside {

@@ -2,7 +2,18 @@
 
 use crate::damage;
 use crate::desk::{Main, Reminder, Sample, BTS, CONV, METRE, QUIET, STANDING};
-use crate::steer::{Driver, Fails, Goal, Pace};
+use crate::steer::{Driver, Fails, Pace};
+
+/// What a long ride is after for a while.
+#[derive(Clone, Copy, PartialEq)]
+pub enum Goal {
+    Signals,
+    Crossing,
+    Stop,
+    Alongside,
+    Limit,
+    Bts,
+}
 
 impl Driver {
     /// Random fields, mostly in range; standstill and rearm often enough that the brake goes off again.

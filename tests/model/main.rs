@@ -31,19 +31,29 @@ mod stand;
 mod stand_check;
 mod steer;
 mod tone;
+mod why;
+mod why_check;
+mod why_kind;
+mod why_printed_check;
+mod why_rows;
+mod whys;
+mod whys_make;
+mod whys_rows;
 mod windows;
 
+use ride::More;
 use std::io::{self, Read, Write};
 
 const USAGE: &str = "model run CARD < RECORDING
-model ride CARD < RECORDING
+model ride CARD [reason] < RECORDING
+model why CARD [words] < RECORDING
 model receive CARD LENGTH[,LENGTH..] < LINE
 model replay CARD QUOTA.. < RECORDING
 model cover CARD < RECORDING
-model cover-pieces|cover-replays|cover-tones < BATCH
+model cover-pieces|cover-replays|cover-tones|cover-whys < BATCH
 model answer < BATCH
-model make cards|settings|tones|pieces|replays SEED SIZE > BATCH
-model make-ride random|answers|drive|long|stand|quiet|damaged SEED SAMPLES CARDFILE RECFILE
+model make cards|settings|tones|pieces|replays|whys SEED SIZE > BATCH
+model make-ride random|answers|drive|long|stand|quiet|why|damaged SEED SAMPLES CARDFILE RECFILE
 model make-line SEED CARDFILE LINEFILE
 model self";
 
@@ -52,8 +62,11 @@ fn main() -> io::Result<()> {
     let words: Vec<&str> = words.iter().map(|word| word.as_str()).collect();
     let mut out = io::BufWriter::new(io::stdout().lock());
     match words[..] {
-        ["run", file] => ride::print(&std::fs::read(file)?, &input()?, true, &mut out)?,
-        ["ride", file] => ride::print(&std::fs::read(file)?, &input()?, false, &mut out)?,
+        ["run", file] => ride::print(&std::fs::read(file)?, &input()?, More::Answer, &mut out)?,
+        ["ride", file] => ride::print(&std::fs::read(file)?, &input()?, More::No, &mut out)?,
+        ["ride", file, "reason"] => ride::print(&std::fs::read(file)?, &input()?, More::Reason, &mut out)?,
+        ["why", file] => why::print(&std::fs::read(file)?, &input()?, &mut out)?,
+        ["why", file, "words"] => why::print_words(&std::fs::read(file)?, &input()?, &mut out)?,
         ["receive", file, lengths] => {
             let lengths: Vec<usize> = lengths.split(',').map(|length| number(length) as usize).collect();
             if lengths.last() == Some(&0) {
@@ -76,8 +89,9 @@ fn main() -> io::Result<()> {
                 writeln!(out, "{count} {row}")?;
             }
         }
-        ["cover-replays"] => {
-            for (row, count) in replay_rows::cover(&io::read_to_string(io::stdin())?) {
+        [what @ ("cover-replays" | "cover-whys")] => {
+            let cover = if what == "cover-replays" { replay_rows::cover } else { whys_rows::cover };
+            for (row, count) in cover(&io::read_to_string(io::stdin())?) {
                 writeln!(out, "{count} {row}")?;
             }
         }

@@ -1,5 +1,5 @@
 //! Batches of cases by seed: cards to read, settings to write, sheets with tones; recordings in pieces are line.rs's, replays
-//! replay_make.rs's.
+//! replay_make.rs's, reasons whys_make.rs's.
 
 use crate::card::{self, Row, Settings};
 use crate::cards::{unhex, CARD_A, CARD_P, CARD_R, CARD_R2, CARD_RL};
@@ -7,6 +7,7 @@ use crate::cases::hex;
 use crate::check::SHEET;
 use crate::line;
 use crate::replay_make;
+use crate::whys_make;
 
 /// Splitmix64: the same seed gives the same numbers everywhere.
 pub struct Rng(u64);
@@ -51,6 +52,7 @@ pub fn batch(kind: &str, seed: u64, size: u64) -> Option<String> {
         "tones" => tone_case,
         "pieces" => return Some(line::batch(seed, size)),
         "replays" => return Some(replay_make::batch(seed, size)),
+        "whys" => return Some(whys_make::batch(seed, size)),
         _ => return None,
     };
     Some((0..size).map(|_| case(&mut rng)).collect())

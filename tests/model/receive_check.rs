@@ -273,7 +273,7 @@ fn by_seed(checks: &mut Checks) {
         if card::read(2, &card).is_err() || ride::recording(&bytes).is_ok() {
             same_as_whole += 1;
             let mut whole = Vec::new();
-            ride::print(&card, &bytes, false, &mut whole).unwrap();
+            ride::print(&card, &bytes, ride::More::No, &mut whole).unwrap();
             checks.equal(case, at_once.as_bytes(), &whole);
         }
         if card::read(2, &card).is_ok() {

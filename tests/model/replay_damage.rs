@@ -67,7 +67,7 @@ pub fn steps(rng: &mut Rng) -> Case {
 }
 
 /// The fastest train that the card of a session allows.
-fn fastest(session: &Session) -> u8 {
+pub fn fastest(session: &Session) -> u8 {
     (1..=8).filter(|train| train_speed(*train) <= session.settings.vmax as i64).last().unwrap()
 }
 

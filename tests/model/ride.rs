@@ -4,6 +4,7 @@ use crate::card;
 use crate::desk::{Answer, Main, Reminder, Sample, Session, BTS, CAUSE_TOP};
 use crate::quiet;
 use crate::stand;
+use crate::why_rows;
 use std::collections::BTreeMap;
 use std::io::Write;
 
@@ -13,7 +14,7 @@ pub struct Recording {
 }
 
 /// "recording not exactly as long as stated, length not 6 + 6n with n ≤ 10,000, or version not 1". "Recording: length
-/// (4 bytes), version 1, train type, then six bytes a sample (pulses 2, beacon, buttons 2, mode)." (R 7)
+/// (4 bytes), version 1, train type, then six bytes a sample" (R 7).
 pub fn recording(bytes: &[u8]) -> Result<Recording, u8> {
     if bytes.len() < 6 {
         return Err(14);
@@ -22,13 +23,17 @@ pub fn recording(bytes: &[u8]) -> Result<Recording, u8> {
     if length != bytes.len() || (length - 6) % 6 != 0 || (length - 6) / 6 > 10_000 || bytes[4] != 1 {
         return Err(14);
     }
-    let samples = bytes[6..].chunks(6).map(|six| Sample {
+    Ok(Recording { train: bytes[5], samples: bytes[6..].chunks(6).map(sample_in).collect() })
+}
+
+/// "six bytes a sample (pulses 2, beacon, buttons 2, mode)".
+pub fn sample_in(six: &[u8]) -> Sample {
+    Sample {
         pulses: card::big_endian(&six[0..2]) as u16,
         beacon: six[2],
         buttons: card::big_endian(&six[3..5]) as u16,
         mode: six[5],
-    });
-    Ok(Recording { train: bytes[5], samples: samples.collect() })
+    }
 }
 
 /// The bytes of a recording.
@@ -78,41 +83,61 @@ fn each_sample(card: &[u8], bytes: &[u8], mut each: impl FnMut(&Session, Sample,
     None
 }
 
+/// What is printed behind the paper's four columns: nothing, "the reason, 1..7, as a fifth column" (02 f), or the rest of the
+/// answer.
+#[derive(Clone, Copy, PartialEq)]
+pub enum More {
+    No,
+    Reason,
+    Answer,
+}
+
 /// "prints the heading, then reads the card (highest 2) from a file and the ride from standard input"; "A refusal
-/// prints the line `refused` and its number, and ends it." The whole answer, six columns, or the paper's four.
-pub fn print(card: &[u8], bytes: &[u8], whole: bool, out: &mut impl Write) -> std::io::Result<()> {
-    writeln!(out, "n limit lamps cause{}", if whole { " icon standing" } else { "" })?;
-    let mut lines = String::new();
+/// prints the line `refused` and its number, and ends it." "The heading is then `n limit lamps cause reason` ...; refusal lines
+/// are unchanged." (f9)
+pub fn print(card: &[u8], bytes: &[u8], more: More, out: &mut impl Write) -> std::io::Result<()> {
+    let mut lines = match more {
+        More::No => "n limit lamps cause\n".to_string(),
+        More::Reason => "n limit lamps cause reason\n".to_string(),
+        More::Answer => "n limit lamps cause icon standing\n".to_string(),
+    };
     let mut n = 0;
-    let end = ride(card, bytes, |_, answer| {
+    let end = ride(card, bytes, |session, answer| {
         n += 1;
         lines += &format!("{} {} {} {}", n, answer.s, answer.lamps, answer.cause);
-        if whole {
-            lines += &format!(" {} {}", answer.icon, answer.limit as u8);
-        }
-        lines += "\n";
+        lines += &match more {
+            More::No => "\n".to_string(),
+            More::Reason => format!(" {}\n", session.why().reason),
+            More::Answer => format!(" {} {}\n", answer.icon, answer.limit as u8),
+        };
     });
-    out.write_all(lines.as_bytes())?;
-    match end {
-        Some(number) => writeln!(out, "refused {}", number),
-        None => Ok(()),
-    }
+    lines += &ending(end);
+    out.write_all(lines.as_bytes())
+}
+
+/// The line of the refusal that ended a ride, if any.
+pub fn ending(end: Option<u8>) -> String {
+    end.map_or(String::new(), |number| format!("refused {number}\n"))
 }
 
 /// What a ride met, by key. "arose" counts samples in which a cause arose, "stood" samples in which it began to stand;
 /// "steps" counts samples with a standing limit of that many steps. The keys of standstill are stand.rs's, those of the
-/// quiet pickup quiet.rs's.
+/// quiet pickup quiet.rs's, those of the reason and the brake's age why_rows.rs's.
 pub fn cover(card: &[u8], bytes: &[u8]) -> BTreeMap<String, u64> {
     let mut counts: BTreeMap<String, u64> = BTreeMap::new();
     let mut last_code = 0;
     let mut last_cause = 0;
     let mut of_standstill = stand::Meter::new();
     let mut of_quiet = quiet::Meter::new();
+    let mut of_why = why_rows::Meter::new();
     let mut meets = |key: String| *counts.entry(key).or_insert(0) += 1;
     let end = each_sample(card, bytes, |session, sample, result| {
         let mut met = Vec::new();
         of_standstill.meet(session, sample, result, &mut met);
         of_quiet.meet(session, sample, result, &mut met);
+        if result.is_ok() {
+            of_why.meet(session, sample, &mut met);
+        }
         met.into_iter().for_each(&mut meets);
         let Ok(answer) = result else { return };
         meets("samples".into());

@@ -3,8 +3,10 @@
 use crate::card::Settings;
 use crate::damage;
 use crate::desk::{train_speed, Main, Reminder, Sample, Session, Window, METRE, QUIET, STANDING};
+use crate::kinds::Goal;
 use crate::make::{card_bytes, good_settings, Rng};
 use crate::ride::recorded;
+use crate::why_kind::{equal_speeds, Step};
 use crate::windows::waits_for;
 
 /// How the train runs against S.
@@ -56,7 +58,7 @@ pub struct Driver {
     pub pace: Pace,
     pub pace_left: i64,
     /// How a braked train is held: it stands, or creeps for a while.
-    held: Pace,
+    pub held: Pace,
     /// The count, that sample included, at which the mode is to change; 0 is one with a pulse.
     pub mode_at: Option<i64>,
     /// The sample from which a ride of kind stand is after its last mode change, maybe one that is refused; the last
@@ -65,17 +67,7 @@ pub struct Driver {
     pub goal: Goal,
     pub goal_left: i64,
     pub next_beacon: i64,
-}
-
-/// What a long ride is after for a while.
-#[derive(Clone, Copy, PartialEq)]
-pub enum Goal {
-    Signals,
-    Crossing,
-    Stop,
-    Alongside,
-    Limit,
-    Bts,
+    pub plays: Vec<Step>,
 }
 
 /// A card's bytes and a recording's, by kind.
@@ -101,6 +93,10 @@ pub fn fresh(rng: &mut Rng, kind: &str) -> (Vec<u8>, Session) {
     if kind == "stand" && rng.chance(40) {
         settings.tick = 1000;
     }
+    if kind == "why" {
+        version = 2;
+        equal_speeds(rng, &mut settings);
+    }
     let mut card = card_bytes(rng, version, &settings);
     if rng.chance(10) {
         card.extend([0xff; 7]);
@@ -120,6 +116,7 @@ pub fn run(mut rng: Rng, session: Session, kind: &str, samples: usize) -> Option
     let care = match kind {
         "answers" => Care { asleep: 15, at_an_end: 40, wrong: 15, reminded: 65 },
         "quiet" => Care { asleep: 60, at_an_end: 20, wrong: 10, reminded: 20 },
+        "why" => Care { asleep: 70, at_an_end: 10, wrong: 5, reminded: 65 },
         _ => Care { asleep: 4, at_an_end: 6, wrong: 4, reminded: 65 },
     };
     let fails = match kind {
@@ -139,7 +136,7 @@ pub fn run(mut rng: Rng, session: Session, kind: &str, samples: usize) -> Option
     let mut driver = Driver {
         rng, session, samples: Vec::new(), presses: Vec::new(), care, fails, quiet_left: 0, before_quiet: 0,
         pace: Pace::Stand, pace_left, held: Pace::Stand, mode_at, last_try, goal: Goal::Signals, goal_left: 100,
-        next_beacon: 5,
+        next_beacon: 5, plays: Vec::new(),
     };
     if kind == "quiet" && driver.session.settings.function(2) && driver.rng.chance(40) {
         driver.after_a_reminder();
@@ -152,6 +149,7 @@ pub fn run(mut rng: Rng, session: Session, kind: &str, samples: usize) -> Option
             "long" => driver.long_sample(),
             "stand" => driver.stand_sample(),
             "quiet" => driver.quiet_sample(),
+            "why" => driver.why_sample(),
             _ => return None,
         };
         if !accepted {
