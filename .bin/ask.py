@@ -1,5 +1,5 @@
-"""ask.py PROGRAM [ARGUMENT..]: runs ride, trace, receive, replay or show_card for a person, with a status; a refused ride is said in words
-too."""
+"""ask.py PROGRAM [ARGUMENT..]: runs ride, why, trace, receive, replay or show_card for a person, with a status; a refused ride is said in
+words too."""
 
 import sys
 
@@ -8,10 +8,19 @@ import plain
 import programs
 
 USAGES = {
-    "ride": """usage: ./ride CARD < RECORDING
+    "ride": """usage: ./ride CARD [reason] < RECORDING
 
 Prints the ride: under a heading a line a sample, with its number, the supervised speed in hundredths of km/h, the lamps and the
-cause of the brake. Where the ride is refused the last line is `refused` and the number, and standard error has it in words.""",
+cause of the brake; with the word `reason` also which limit sets the speed, 1 to 7 as ./why has them. Where the ride is refused the last
+line is `refused` and the number, and standard error has it in words.""",
+    "why": """usage: ./why CARD [words] < RECORDING
+
+Says why the supervised speed is what it is: under a heading a line a sample, with its number, the supervised speed in hundredths of km/h,
+which limit sets it, that limit's age, the cause of the brake (0: off), and how many samples ago the brake came on. A sample is 0.1 s. The
+limits are 1 vmax of the card, 2 T of the train type, 3 BTS speed, 4 the main control, 5 the stop that stays alongside, 6 the crossing,
+7 the limit; of equal ones the first is named, and 1 to 3 have age 0. With the word `words` the same is said in words, with no heading,
+in km/h and seconds: of the first sample, and of those where another limit is named or the cause is another. Where the ride is refused the
+last line is `refused` and the number, and standard error has it in words.""",
     "trace": """usage: ./trace CARD < RECORDING
 
 Prints the ride as ./ride does, with two more columns: the crossing icon (0 none, 1 protected, 2 unprotected) and whether the limit
@@ -33,6 +42,9 @@ Where a sample is refused the last line is `refused`, the number, `at` and its p
 Lists the settings of the card in FILE, or says why it is refused. Where FILE is - the card comes on standard input. bench/unhex makes
 bytes of a hex dump.""",
 }
+
+# How many arguments each may have. What they say is the program's to judge.
+COUNTS = {"ride": (1, 2), "why": (1, 2), "trace": (1,), "receive": (1, 2), "replay": range(2, sys.maxsize), "show_card": (1,)}
 
 
 def ride(name, card, given=None, more=()):
@@ -59,19 +71,32 @@ def receive(card, *size):
     return ride("receive", card, more=size)
 
 
-def recorded(name, card, *quotas):
-    """Prints the ride of a recording that is there, or with quotas where it stops. Gives the status."""
+def recorded(name, card, *more):
+    """Prints the ride of a recording that is there, with a word in another form, or with quotas where it stops. Gives the status."""
     plain.check_input("recording", USAGES[name])
-    return ride(name, card, more=quotas)
+    return ride(name, card, more=more)
+
+
+def in_words(card):
+    """Prints in words why each speed is what it is. Gives the status. Samples where nothing new is named have no line, and there is no
+    heading, so the lines do not tell which sample was refused: then the ride is run on the same bytes, where each sample has a line."""
+    given = desk.given_bytes(card, USAGES["why"])
+    with programs.lent(given[0]) as area, programs.lent(given[1]) as recording:
+        recording.seek(0)
+        heard = programs.pass_on("why", [area.name, "words"], recording)
+    if heard.refusal:
+        whole = desk.Ride(*given)
+        desk.say_refusal(whole.refusal, len(whole.answers), *given)
+    return heard.status()
 
 
 def main(name, arguments):
-    if name == "receive" and len(arguments) in (1, 2):
-        return receive(*arguments)
-    if name == "replay" and len(arguments) > 1:
-        return recorded(name, *arguments)
-    if len(arguments) != 1 or name == "replay":
+    if len(arguments) not in COUNTS[name]:
         raise plain.Usage
+    if name == "receive":
+        return receive(*arguments)
+    if name == "why" and arguments[1:] == ["words"]:
+        return in_words(arguments[0])
     return show_card(*arguments) if name == "show_card" else recorded(name, *arguments)
 
 

@@ -245,10 +245,14 @@ def say_if_text(number, card, recording):
 
 # ---- given, and told
 
+def given_bytes(card, usage):
+    """The bytes of the card in a file, and of the recording on standard input, as far as a program looks at them."""
+    return plain.file_bytes(card, MOST), plain.standard_input("recording", usage, MOST + 1)
+
+
 def given_ride(card, usage):
     """The ride of the recording on standard input, on the card in a file."""
-    area = plain.file_bytes(card, MOST)
-    return Ride(area, plain.standard_input("recording", usage, MOST + 1))
+    return Ride(*given_bytes(card, usage))
 
 
 def clock(samples):
