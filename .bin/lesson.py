@@ -65,6 +65,7 @@ def other_ways(name, card, recording):
     """The commands that show the ride in another way."""
     yield f"As a page:    ./tell {card} < {recording}"
     yield f"As a drawing: ./picture {card} < {recording} > target/ride.svg"
+    yield f"With reasons: ./why {card} words < {recording}"
     if quotas(name):
         yield f"With stops:   ./replay {card} {quotas(name)} < {recording}"
 

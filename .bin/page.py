@@ -16,9 +16,24 @@ import tell
 
 USAGE = """usage: lessons/page NAME.., or lessons/page all
 
-Prints what a lesson's README.md shows of a ride: the command `./tell ..` and, below it, the page. What a README stores is not made by
-the program that it judges: here the answers are those of the independent model (tests/model, built with rustc), in place of `trace`.
-A NAME is one that lessons/make takes."""
+Prints what a lesson's README.md shows of a ride: the command `./tell ..` and, below it, the page; and the command `./why .. words` with
+what it tells. What a README stores is not made by the program that it judges: here the answers are those of the independent model
+(tests/model, built with rustc), in place of `trace` and `why`. A NAME is one that lessons/make takes."""
+
+
+def page(ride):
+    """The ride as ./tell has it."""
+    return tell.page(desk.Ride(ride.card.data, make.recording(ride)), lessons.title_of_recording(pathlib.Path(f"{ride.name}.rec")))
+
+
+def reasons(ride):
+    """The ride as ./why tells it in words."""
+    with programs.lent(ride.card.data) as area:
+        return programs.answer("why", [area.name, "words"], make.recording(ride))
+
+
+def show(command, lines):
+    plain.say("\n".join([f"$ {command}", *lines, "", ""]))
 
 
 def main(names):
@@ -30,11 +45,11 @@ def main(names):
     with tempfile.TemporaryDirectory() as name:
         folder = pathlib.Path(name)
         subprocess.run(["rustc", "-o", folder / "model", desk.ROOT / "tests" / "model" / "main.rs"], check=True)
-        programs.command = lambda _: [folder / "model", "run"]
+        programs.command = lambda name: [folder / "model", "run" if name == "trace" else name]
         for ride in rides:
-            answered = desk.Ride(ride.card.data, make.recording(ride))
-            page = tell.page(answered, lessons.title_of_recording(pathlib.Path(f"{ride.name}.rec")))
-            plain.say("\n".join([f"$ ./tell target/lessons/{ride.card.name}.card < target/lessons/{ride.name}.rec", *page, "", ""]))
+            card, recording = f"target/lessons/{ride.card.name}.card", f"target/lessons/{ride.name}.rec"
+            show(f"./tell {card} < {recording}", page(ride))
+            show(f"./why {card} words < {recording}", reasons(ride))
     return 0
 
 
