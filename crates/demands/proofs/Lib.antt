@@ -39,3 +39,4 @@ pub mod LazyPrints
 pub mod LazyCounts
 pub mod LazyCauses
 pub mod LazyReplays
+pub mod LazyReasons

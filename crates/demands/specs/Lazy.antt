@@ -39,6 +39,16 @@ use Rattle.demands.specs.Pieces.{afterBytes, shownBytes, Going, AllBytes
 use Rattle.demands.specs.ShutOut.{Logic, document01, Equals, OneSpeed, Repeats}
 use Rattle.demands.specs.Standing.{StoodFor, Counter, Counts}
 use Rattle.demands.specs.Quiet.{steppedBefore, Arisen, Raiser, Raises}
+use Rattle.step.specs.declared.speed.Standing.{Standing}
+use Rattle.step.specs.Speed.{none, limits}
+use Rattle.step.specs.Reason.{reasonNumber}
+use Rattle.session.specs.declared.Reasoned.{Reasoned}
+use Rattle.session.specs.declared.Told.{Told as Asking}
+use Rattle.session.specs.declared.Told.the-variants as asked
+use Rattle.session.specs.Why.{whyFrom, askedOf}
+use Rattle.step_laws.specs.Reason.{Limits}
+use Rattle.laws.specs.Unanswered.{topOf}
+use Rattle.demands.specs.Why.{Asker, AsksExactly}
 use Rattle.demands.specs.Replay.{Replayer, ReplayedAs, ReplaysExactly, TwoQuotas, WholeRide}
 
 -- ---- logics
@@ -306,6 +316,31 @@ pub record ReplaysOut : Type 0 where
   pub start-out : ReplaysExactly fromStart → ⊥
   pub late-passes : ReplaysDue looksLate
   pub late-out : ReplaysExactly looksLate → ⊥
+
+-- ---- reasons, 02 f
+
+-- A statement of the named limit alone: it stands, and has the answer's S and the age that is told.
+abbrev pub NamesStanding : Asker → Type 0
+NamesStanding ask = (s : Session) (x : Sample) (r : Reasoned) → ask s x .told ≡ asked.Reasoned r → (let t = ask s x .session in
+    Limits (t .settings) (topOf t) (t .desk) (reasonNumber (r .why .reason)) (r .answer .speed) (r .why .age))
+
+-- the last of a list that stands and has this speed
+abbrev pub lastAt : ℕ → List Standing → Standing
+lastAt speed [] = none
+lastAt speed (l ∷ rest) = pick (lastAt speed rest .stands) (lastAt speed rest) (pick (l .stands && eqb (l .speed) speed) l none)
+
+abbrev pub lastNamed : Session → Asking → Asking
+lastNamed t (asked.Reasoned r) =
+    asked.Reasoned (record { answer = r .answer; why = whyFrom (lastAt (r .answer .speed) (limits (t .settings) (topOf t) (t .desk))) (t .desk .brake) })
+lastNamed t (asked.Refused why) = asked.Refused why
+
+-- one that names the last of equal ones
+abbrev pub namesLast : Asker
+namesLast s x = record { session = askedOf s x .session; told = lastNamed (askedOf s x .session) (askedOf s x .told) }
+
+pub record ReasonsOut : Type 0 where
+  pub last-passes : NamesStanding namesLast
+  pub last-out : AsksExactly namesLast → ⊥
 
 -- ---- printers
 

@@ -66,6 +66,14 @@ pub data AskedAs (s : Session) (x : Sample) : Asked → Type 0 where
   reasoned : (t : Session) (a : Answered) (w : Why) → SampledAs s x (record { session = t; outcome = outcome.Answered a }) → WhyMet t a w
       → AskedAs s x (record { session = t; told = Reasoned (record { answer = a; why = w }) })
 
+-- what is asked of a session and a sample
+abbrev pub Asker : Type 0
+Asker = Session → Sample → Asked
+
+-- it tells exactly that, of every session and every sample
+abbrev pub AsksExactly : Asker → Type 0
+AsksExactly ask = (s : Session) (x : Sample) → Exactly (ask s x) (AskedAs s x)
+
 -- ---- the age of the brake, from the samples
 
 -- braked now, and after each of these samples
@@ -94,7 +102,7 @@ pub record Sinces (f : Since) : Type 0 where
 
 pub record WhyLaws : Type 0 where
   -- 1. Of every session and every sample, exactly that is told, and nothing else is.
-  pub asked : (s : Session) (x : Sample) → Exactly (askedOf s x) (AskedAs s x)
+  pub asked : AsksExactly askedOf
   -- The reason is one of 1..7; "3 stands in BTS only" and 4 not under clear (f2) by what a limit is.
   pub numbered : (t : Session) (speed number age : ℕ) → Reasons t speed number age → (1 ≤ number) × (number ≤ 7)
   -- 2. How many samples ago the brake came on, after any list of samples, accepted or refused; and a braked desk has such a number.

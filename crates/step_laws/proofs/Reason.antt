@@ -38,7 +38,7 @@ placed k [] = none
 placed zero (l ∷ rest) = l
 placed (suc k) (l ∷ rest) = placed k rest
 
-abbrev Sets : ℕ → Standing → Type 0
+abbrev pub Sets : ℕ → Standing → Type 0
 Sets speed l = (l .stands ≡ true) × (l .speed ≡ speed)
 
 record FirstPlace (speed : ℕ) (ls : List Standing) : Type 0 where
@@ -72,6 +72,15 @@ first-place speed l (List·Memᴰ·tail {x = x} {xs = rest} m) h = cases (x .sta
     cases true e true g next = here speed x rest (e, eqb-true (x .speed) speed g)
     cases true e false g next = further speed x rest (λ s. eqb-false (x .speed) speed g (s .1)) next
     cases false e t g next = further speed x rest (λ s. false≢true (sym e ∙ s .0)) next
+
+placed-member : (k : ℕ) (ls : List Standing) → placed k ls .stands ≡ true → List·Memᴰ (placed k ls) ls
+placed-member k [] h = absurd (false≢true h)
+placed-member zero (l ∷ rest) h = List·Memᴰ·head refl
+placed-member (suc k) (l ∷ rest) h = List·Memᴰ·tail (placed-member k rest h)
+
+member-placed : {l : Standing} {ls : List Standing} → List·Memᴰ l ls → (k : ℕ) × (placed k ls ≡ l)
+member-placed (List·Memᴰ·head e) = (0, sym e)
+member-placed (List·Memᴰ·tail m) = let p = member-placed m in (suc (p .0), p .1)
 
 -- ---- the limits, by their places
 
@@ -149,6 +158,23 @@ module _ (s : Settings) (top : ℕ) (d : Desk) where
   listed-at (Limits.alongside on) = as-listed 5 4 reason.Alongside (d .beside .alongside .on) _ _ refl refl on
   listed-at (Limits.crossing not) = as-listed 6 5 reason.Crossing (stands (d .beside .crossing .kind)) _ _ refl refl (absent-not (d .beside .crossing .kind) not)
   listed-at (Limits.limit on) = as-listed 7 6 reason.Limit (d .beside .limit .on) _ _ refl refl on
+
+  -- ---- and by their membership
+
+  -- what stands in plain facts is one of the list
+  pub limits-member : {n v a : ℕ} → Limits s top d n v a → (l : Standing) × (List·Memᴰ l (limits s top d) × Sets v l)
+  limits-member h =
+      let e = listed-at h in
+      let stands : at (e .place) .stands ≡ true = ap (λ (l : Standing). l .stands) (e .listed) in
+      (at (e .place), (placed-member (e .place) (limits s top d) stands, (stands, ap (λ (l : Standing). l .speed) (e .listed))))
+
+  -- and one of the list that stands is one in plain facts
+  pub member-limits : (l : Standing) → List·Memᴰ l (limits s top d) → l .stands ≡ true → Limits s top d (reasonNumber (l .reason)) (l .speed) (l .age)
+  member-limits l m h =
+      let p = member-placed m in
+      let facts = plain (p .0) (ap (λ (x : Standing). x .stands) (p .1) ∙ h) in
+      subst (λ (x : Standing). Limits s top d (reasonNumber (x .reason)) (x .speed) (x .age)) (p .1)
+      (subst (λ (n : ℕ). Limits s top d n (at (p .0) .speed) (at (p .0) .age)) (sym (facts .0)) (facts .1))
 
   -- ---- the reason
 
