@@ -95,7 +95,7 @@ module _ (t : Settings) where
 
   -- ---- a list of samples
 
-  spoken : (u : Session) (x : Sample) → differingSpeaks u (beside u .settings) x ≡ false → AllSilent laterFunctions u t x
+  pub spoken : (u : Session) (x : Sample) → differingSpeaks u (beside u .settings) x ≡ false → AllSilent laterFunctions u t x
   unfolding differingSpeaks
   spoken u x h = all-silent laterFunctions u t x h
 

@@ -145,7 +145,7 @@ speed-alike s t top d =
     (limit-alike s t top (d .main))
 
 -- so is the limit that sets it
-reason-alike : (s t : Settings) (top : ℕ) (d : Desk) → reasonOf (later s t) top d ≡ reasonOf s top d
+pub reason-alike : (s t : Settings) (top : ℕ) (d : Desk) → reasonOf (later s t) top d ≡ reasonOf s top d
 unfolding reasonOf
 reason-alike s t top d =
     ap (λ (speed : ℕ). firstAt speed (limits (later s t) top d)) (speed-alike s t top d)

@@ -28,6 +28,7 @@ pub mod ReplayLists
 pub mod Replay
 pub mod WhyAsked
 pub mod WhySince
+pub mod WhyAlike
 pub mod Why
 pub mod ShutOut
 pub mod Starred

@@ -11,11 +11,13 @@ use Prim.Native.Nat.{ℕ, min, _≤_, _<_}
 use mathlib.Core.Bool.{Bool, true, false}
 use mathlib.Core.List.{List, [], _∷_, _++_}
 use mathlib.Core.Path.{_≡_}
-use lib.ListN.{length}
+use lib.ListN.{length, take}
 use Rattle.leaf.specs.Answers.{Answer, given, refused, refusedAt}
 use Rattle.leaf.specs.declared.Refusal.the-variants.{Number}
 use Rattle.card.specs.declared.Row.{Row}
 use Rattle.card.specs.declared.Settings.{Settings}
+use Rattle.card.specs.Card.{Same}
+use Rattle.card.specs.Reading.{readCard}
 use Rattle.card.specs.CardA.{cardA}
 use Rattle.step.specs.declared.Answer.{Answer as Answered}
 use Rattle.step.specs.declared.speed.Reason.{Reason}
@@ -38,7 +40,8 @@ use Rattle.printed.specs.declared.Form.{Form}
 use Rattle.printed_why.specs.PrintedWhy.{printedWhy}
 use Rattle.printed_why.specs.declared.Telling.{Telling}
 use Rattle.demands.specs.Demand1.{Exactly, refusalBy, SampledAs}
-use Rattle.demands.specs.Demand3.{SameSpeaking}
+use Rattle.demands.specs.Speaks.{untilSpeaks}
+use Rattle.demands.specs.Demand3.{SameSpeaking, SameWithout}
 use Rattle.demands.specs.Standing.{acceptedOf, Braked}
 use Rattle.demands.specs.Examples.{conv, bts, times, cardA-with}
 
@@ -98,6 +101,28 @@ pub record Sinces (f : Since) : Type 0 where
   pub not-braked : (settings : Settings) (train : ℕ) (s : Session) (xs : List Sample) → openSession settings train ≡ given s
       → after s xs .desk .brake .cause ≡ 0 → f s xs ≡ 0
 
+-- ---- what is told of a ride
+
+-- of each of these samples
+unfoldable pub asks : Session → List Sample → List Told
+asks s [] = []
+asks s (x ∷ xs) = askedOf s x .told ∷ asks (askedOf s x .session) xs
+
+abbrev pub toldFrom : Answer Session → List Sample → Answer (List Told)
+toldFrom (given s) xs = given (asks s xs)
+toldFrom (refused n) xs = refused n
+toldFrom (refusedAt n place) xs = refusedAt n place
+
+-- of settings, a train type and a list of samples
+abbrev pub told : Settings → ℕ → List Sample → Answer (List Told)
+told settings train xs = toldFrom (openSession settings train) xs
+
+-- the first n of it
+abbrev pub firstTold : ℕ → Answer (List Told) → Answer (List Told)
+firstTold n (given ts) = given (take n ts)
+firstTold n (refused number) = refused number
+firstTold n (refusedAt number place) = refusedAt number place
+
 -- ---- the request
 
 pub record WhyLaws : Type 0 where
@@ -113,22 +138,18 @@ pub record WhyLaws : Type 0 where
   pub age-inside : (settings : Settings) (train : ℕ) (s : Session) (xs : List Sample) → openSession settings train ≡ given s
       → after s xs .desk .brake .age ≤ 30000
   pub age-outside : (s : Session) (x : Sample) → 30000 < s .desk .brake .age → askedOf s x ≡ record { session = s; told = Refused (Number 8) }
-  -- 3. "Old bytes stay silent": two areas with the same speaking bytes print the same, with the reason as a fifth column too, and the same reasons in
-  -- numbers and in words.
+  -- 3. "Old bytes stay silent": two areas with the same speaking bytes are read as the same settings (`silent-bytes`), so that the same is told, and print
+  -- the same, with the reason as a fifth column too, and the same reasons in numbers and in words.
   pub silent-column : (form : Form) (a b recording : List ℕ) → SameSpeaking a b → printedAs form a recording ≡ printedAs form b recording
   pub silent-why : (telling : Telling) (a b recording : List ℕ) → SameSpeaking a b → printedWhy telling a recording ≡ printedWhy telling b recording
+  -- "version 1 answers like version 2 with all later functions off": the same is told of every list of samples,
+  pub versions-told : (a b : List ℕ) (h g : ℕ) (s t : Settings) → readCard a h ≡ given s → readCard b g ≡ given t → SameWithout a b
+      → (train : ℕ) (xs : List Sample) → told s train xs ≡ told t train xs
+  -- and of "two cards that differ only in later functions" "up to, not including, the first accepted sample at which a differing function speaks"
+  pub functions-told : (a b : List ℕ) (h g : ℕ) (s t : Settings) → readCard a h ≡ given s → readCard b g ≡ given t → Same a b 3 39
+      → (train : ℕ) (xs : List Sample) → firstTold (untilSpeaks s t train xs) (told s train xs) ≡ firstTold (untilSpeaks s t train xs) (told t train xs)
 
 -- ---- both sides of each line, type 6 where no other is said
-
--- what is told of each of these samples
-unfoldable pub asks : Session → List Sample → List Told
-asks s [] = []
-asks s (x ∷ xs) = askedOf s x .told ∷ asks (askedOf s x .session) xs
-
-abbrev pub toldFrom : Answer Session → List Sample → Answer (List Told)
-toldFrom (given s) xs = given (asks s xs)
-toldFrom (refused n) xs = refused n
-toldFrom (refusedAt n place) xs = refusedAt n place
 
 -- the last of them alone
 abbrev pub lastOf : List Told → List Told
@@ -159,9 +180,6 @@ level = cardA-with 100 0 (record { initial = 100; last = 100; delay = 0; drop = 
 
 abbrev pub low : Settings
 low = cardA-with 100 0 (record { initial = 60; last = 60; delay = 0; drop = 1 })
-
-abbrev pub told : Settings → ℕ → List Sample → Answer (List Told)
-told settings train xs = toldFrom (openSession settings train) xs
 
 pub record WhyExamples : Type 0 where
   -- document 01's ride: "start 1 in the first sample" (f3)
