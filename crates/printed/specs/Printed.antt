@@ -102,7 +102,7 @@ cardText form recording n (given settings) = startedText form recording n (start
 cardText form recording n (refused m) = refusedLine m
 cardText form recording n (refusedAt m place) = refusedLine m
 
--- "The ride program prints the heading, then reads the card (highest 2) from a file and the ride from standard input."
+-- "(highest 2)"
 abbrev pub highest : ℕ
 highest = 2
 
@@ -115,6 +115,7 @@ startAfter (refusedAt n place) recording = refusedAt n place
 unfoldable pub startOn : List ℕ → List ℕ → Answer Session
 startOn card recording = startAfter (readCard card highest) recording
 
+-- "The ride program prints the heading, then reads the card (highest 2) from a file and the ride from standard input."
 unfoldable pub printedAs : Form → List ℕ → List ℕ → List ℕ
 printedAs form card recording = headingOf form ++ cardText form recording (samplesIn recording) (readCard card highest)
 
