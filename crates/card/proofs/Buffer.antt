@@ -9,7 +9,7 @@ use lib.Seq.{drop-at, length-take-le}
 use borrow.Author.Tests.{leb-true}
 use Rattle.leaf.specs.Answers.{Answer, given, refused, refusedAt}
 use Rattle.card.specs.Card.{lengthOf, reminds}
-use Rattle.card.specs.Writing.{bytesOf, recordOf, writeCard, written, leaves}
+use Rattle.card.specs.Writing.{pairsBytes, bytesOf, recordOf, writeCard, written, leaves}
 use Rattle.card.specs.Laws.{length-bytesOf, lengthOf-le, done-checks}
 use Rattle.card.specs.Plain.{SettingsMet}
 use Rattle.card.specs.declared.Settings.{Settings}
@@ -48,7 +48,11 @@ length-kept v s buffer = cases (writeCard v s (length buffer)) (λ h. leb-true _
     cases (refused n) fits = refl
     cases (refusedAt n p) fits = refl
 
--- the writer "zeroes silent bytes": with bit 2 off, bytes 40 to 43 of a version 2 record are 0
+-- the writer "zeroes silent bytes": with bit 2 off, bytes 40 to 43 of a version 2 record are 0, and so are those of a version 3 record
 pub silent-zero : (s : Settings) → SettingsMet 2 s → reminds (s .functions) ≡ false → drop 40 (recordOf 2 s) ≡ 0 ∷ 0 ∷ 0 ∷ 0 ∷ []
 unfolding recordOf bytesOf
 silent-zero s m e = let z = reminder-zero m e in rw (z .0, z .1)
+
+pub silent-zero-3 : (s : Settings) → SettingsMet 3 s → reminds (s .functions) ≡ false → drop 40 (recordOf 3 s) ≡ 0 ∷ 0 ∷ 0 ∷ 0 ∷ pairsBytes (s .pairs)
+unfolding recordOf bytesOf
+silent-zero-3 s m e = let z = reminder-zero m e in rw (z .0, z .1)

@@ -6,13 +6,15 @@ use lib.ListN.{length}
 use Rattle.leaf.specs.Answers.{Answer}
 use Rattle.leaf.specs.declared.Refusal.the-variants.{Number, At}
 use Rattle.card.specs.Ranges.{checkedOf}
-use Rattle.card.specs.Reading.{paperOf}
+use Rattle.card.specs.Reading.{paperOf, foundOf, cardIn}
 use Rattle.card.specs.Writing.{writtenOf, writeCard, leaves}
 use Rattle.card.specs.declared.Settings.{Settings}
 use Rattle.card.specs.declared.Checked.{Checked}
 use Rattle.card.specs.declared.Checked.the-variants.{InRange, FaultAt}
 use Rattle.card.specs.declared.Reading.{Reading}
 use Rattle.card.specs.declared.Reading.the-variants.{Read, Refused}
+use Rattle.card.specs.declared.Found.{Found}
+use Rattle.card.specs.declared.Found.the-variants as found
 use Rattle.card.specs.declared.Written.{Written}
 use Rattle.card.specs.declared.Written.the-variants.{Done, NotWritten}
 
@@ -65,3 +67,18 @@ pub write-determined : (v : ℕ) (s : Settings) (buffer after after′ : List �
     → after ≡ leaves (writtenOf a) v s buffer → writtenOf b ≡ writeCard v s (length buffer) → after′ ≡ leaves (writtenOf b) v s buffer
     → (a ≡ b) × (after ≡ after′)
 write-determined v s buffer after after′ a b pa la pb lb = (answer-determined _ a b pa pb, rw (la, lb, pa, pb))
+
+-- the card in an area
+pub found-one : (a b : Found) → foundOf a ≡ foundOf b → a ≡ b
+found-one (found.Read c) (found.Read d) h = cc
+found-one (found.Read c) (found.Refused (Number n)) h = cc
+found-one (found.Read c) (found.Refused (At n p)) h = cc
+found-one (found.Refused (Number n)) (found.Read d) h = cc
+found-one (found.Refused (Number n)) (found.Refused (Number m)) h = cc
+found-one (found.Refused (Number n)) (found.Refused (At m q)) h = cc
+found-one (found.Refused (At n p)) (found.Read d) h = cc
+found-one (found.Refused (At n p)) (found.Refused (Number m)) h = cc
+found-one (found.Refused (At n p)) (found.Refused (At m q)) h = cc
+
+pub card-in-determined : (area : List ℕ) (highest : ℕ) (a b : Found) → foundOf a ≡ cardIn area highest → foundOf b ≡ cardIn area highest → a ≡ b
+card-in-determined area highest a b pa pb = found-one a b (pa ∙ sym pb)

@@ -5,21 +5,22 @@ use native.Mathlib.Omega.{arith}
 use mathlib.Core.Path.{_≡_, refl, sym, _∙_}
 use mathlib.Core.Bool.{Bool, true, false}
 use mathlib.Core.Logic.{_↔_}
-use lib.Dec.{T, ltb, eqb, lit≤}
+use lib.Dec.{T, ltb, eqb, lit≤, lit<}
 use borrow.Author.Tests.{ltb-true, ltb-false, eqb-true, eqb-false, ne-eqb}
 use Rattle.leaf.specs.Choosing.{pick}
 use Rattle.leaf.specs.Checks.{firstBad, numbered, none-bad, fine-none, all-hold}
 use Rattle.leaf.specs.Answers.{Answer, refusedAt, isGiven}
-use Rattle.card.specs.Card.{baseKind, reminds}
+use Rattle.card.specs.Card.{baseKind, speedOf, noPairs, reminds}
 use Rattle.card.specs.Ranges.{placeOf, settingsChecks, settingsFault, settingsInside, checkOf, inRange}
-use Rattle.card.specs.Plain.{Setting, Vmax, Tick, Bts, Initial, Last, Drop, Functions, X, Y, OfCard, offset, place, SettingMet, RangesMet, FirstOut, Placed, CheckedAs, out-of-range, in-range}
+use Rattle.card.specs.Plain.{Setting, Vmax, Tick, Bts, Initial, Last, Drop, Functions, X, Y, PairSpeed, PairDistance, OfCard, offset, place, SettingMet, RangesMet, FirstOut, Placed, CheckedAs, out-of-range, in-range}
 use Rattle.card.specs.declared.Kind.{Kind}
+use Rattle.card.specs.declared.Pairs.{Pairs}
 use Rattle.card.specs.declared.Settings.{Settings}
 use Rattle.card.proofs.Listed.{all-map, all-numbered, first, settings, each, every, test, in-order, test-met, met-test}
 
 -- ---- places
 
-offset-top : (setting : Setting) → OfCard setting → offset setting ≤ 39
+offset-top : (setting : Setting) → OfCard setting → offset setting ≤ 45
 offset-top Vmax of = lit≤ tt
 offset-top Tick of = lit≤ tt
 offset-top Bts of = lit≤ tt
@@ -29,6 +30,8 @@ offset-top (Drop row) of = omega arith
 offset-top Functions of = lit≤ tt
 offset-top X of = lit≤ tt
 offset-top Y of = lit≤ tt
+offset-top (PairSpeed pair) of = omega arith
+offset-top PairDistance of = lit≤ tt
 
 -- a first setting out of range is at one place
 pub first-one : {kind : Kind} {v : ℕ} {s : Settings} (a b : ℕ) → FirstOut kind v s a → FirstOut kind v s b → a ≡ b
@@ -117,6 +120,11 @@ base-placed = record { low = lit≤ tt; high = lit≤ tt }
 
 -- ---- what settings in range say
 
+-- pairs are their five numbers
+rebuilt-pairs : (p : Pairs) (a b c d e : ℕ) → a ≡ p .«ten_ten» → b ≡ p .«ten_eleven» → c ≡ p .«eleven_ten» → d ≡ p .«eleven_eleven» → e ≡ p .distance
+    → record { «ten_ten» = a; «ten_eleven» = b; «eleven_ten» = c; «eleven_eleven» = d; distance = e } ≡ p
+rebuilt-pairs p a b c d e pa pb pc pd pe = rw (pa, pb, pc, pd, pe)
+
 -- where bit 2 is off, X and Y are 0
 pub reminder-zero : {kind : Kind} {v : ℕ} {s : Settings} → RangesMet kind v s → reminds (s .functions) ≡ false → (s .x ≡ 0) × (s .y ≡ 0)
 reminder-zero {s = s} m e =
@@ -124,14 +132,29 @@ reminder-zero {s = s} m e =
     let off : s .functions / 4 % 2 ≡ 0 = omega arith in
     (m X tt .1 off, m Y tt .1 off)
 
--- settings in range beside a version are so beside every other but 1
-pub beside : {kind : Kind} {v w : ℕ} {s : Settings} → (w ≡ 1 → v ≡ 1) → RangesMet kind v s → RangesMet kind w s
-beside one m Vmax of = m Vmax of
-beside one m Tick of = m Tick of
-beside one m Bts of = m Bts of
-beside one m (Initial row) of = m (Initial row) of
-beside one m (Last row) of = m (Last row) of
-beside one m (Drop row) of = m (Drop row) of
-beside one m Functions of = (λ e. m Functions of .0 (one e), m Functions of .1)
-beside one m X of = m X of
-beside one m Y of = m Y of
+-- beside a version that is not 3, there are no pairs
+pub no-pairs : {kind : Kind} {v : ℕ} {s : Settings} → RangesMet kind v s → (v ≡ 3 → ⊥) → s .pairs ≡ noPairs
+no-pairs {s = s} m other =
+    let speed : (pair : ℕ) → pair < 4 → speedOf (s .pairs) pair ≡ 0 = λ pair of. m (PairSpeed pair) of .1 other in
+    let a : s .pairs .«ten_ten» ≡ 0 = speed 0 (lit< tt) in
+    let b : s .pairs .«ten_eleven» ≡ 0 = speed 1 (lit< tt) in
+    let c : s .pairs .«eleven_ten» ≡ 0 = speed 2 (lit< tt) in
+    let d : s .pairs .«eleven_eleven» ≡ 0 = speed 3 (lit< tt) in
+    all-zero (s .pairs) a b c d (m PairDistance tt .1 other)
+  where
+    all-zero : (p : Pairs) → p .«ten_ten» ≡ 0 → p .«ten_eleven» ≡ 0 → p .«eleven_ten» ≡ 0 → p .«eleven_eleven» ≡ 0 → p .distance ≡ 0 → p ≡ noPairs
+    all-zero p a b c d e = sym (rebuilt-pairs p 0 0 0 0 0 (sym a) (sym b) (sym c) (sym d) (sym e))
+
+-- settings in range beside a version are so beside every other but 1 that is 3 where it is
+pub beside : {kind : Kind} {v w : ℕ} {s : Settings} → (w ≡ 1 → v ≡ 1) → (w ≡ 3 → v ≡ 3) → (v ≡ 3 → w ≡ 3) → RangesMet kind v s → RangesMet kind w s
+beside one from to m Vmax of = m Vmax of
+beside one from to m Tick of = m Tick of
+beside one from to m Bts of = m Bts of
+beside one from to m (Initial row) of = m (Initial row) of
+beside one from to m (Last row) of = m (Last row) of
+beside one from to m (Drop row) of = m (Drop row) of
+beside one from to m Functions of = (λ e. m Functions of .0 (one e), m Functions of .1)
+beside one from to m X of = m X of
+beside one from to m Y of = m Y of
+beside one from to m (PairSpeed pair) of = (λ three. m (PairSpeed pair) of .0 (from three), λ other. m (PairSpeed pair) of .1 (λ three. other (to three)))
+beside one from to m PairDistance of = (λ three. m PairDistance of .0 (from three), λ other. m PairDistance of .1 (λ three. other (to three)))

@@ -2,6 +2,7 @@ pub mod Listed
 pub mod Rows
 pub mod InRange
 pub mod Area
+pub mod Speeds
 pub mod Exactly
 pub mod Accepted
 pub mod ShutOut

@@ -2,18 +2,18 @@
 use Prim.Native.Nat.{ℕ, zero, suc, _+_, _/_, _%_, _≤_, _<_}
 use native.Mathlib.Omega.{arith}
 use mathlib.Core.Path.{_≡_, refl, sym, _∙_}
-use mathlib.Core.Bool.{Bool, true, false, _&&_}
+use mathlib.Core.Bool.{Bool, true, false, _&&_, _||_}
 use mathlib.Core.List.{List, [], _∷_}
-use mathlib.Core.Logic.{_↔_}
-use lib.Dec.{T, leb, ltb, eqb}
+use mathlib.Core.Logic.{_↔_, ⊎-elim, inl, inr}
+use lib.Dec.{T, leb, ltb, eqb, lit<}
 use lib.ListN.{length}
 use borrow.Author.Tests.{le-leb, leb-true, ltb-true, eqb-true, eqb-false, eq-eqb, ne-eqb}
 use Rattle.leaf.specs.Choosing.{pick, and-split}
 use Rattle.leaf.specs.Numbers.{within}
 use Rattle.leaf.specs.Checks.{Check, orFault, firstBad, numbered, found-stays}
-use Rattle.card.specs.Card.{reminds}
-use Rattle.card.specs.Ranges.{placeOf, rowsOf, rowOf, functionsTop, rangedIf, settingsChecks}
-use Rattle.card.specs.Plain.{Within, Setting, Vmax, Tick, Bts, Initial, Last, Drop, Functions, X, Y, OfCard, offset, SettingMet}
+use Rattle.card.specs.Card.{speedOf, reminds}
+use Rattle.card.specs.Ranges.{placeOf, rowsOf, rowOf, functionsTop, rangedIf, isPairSpeed, pairSpeedMet, settingsChecks}
+use Rattle.card.specs.Plain.{Within, OneOfFour, Setting, Vmax, Tick, Bts, Initial, Last, Drop, Functions, X, Y, PairSpeed, PairDistance, OfCard, offset, SettingMet}
 use Rattle.card.specs.declared.Kind.{Kind}
 use Rattle.card.specs.declared.Row.{Row}
 use Rattle.card.specs.declared.Settings.{Settings}
@@ -112,7 +112,7 @@ ofRows row [] rest = rest
 ofRows row (_ ∷ rows) rest = Initial row ∷ Last row ∷ Drop row ∷ ofRows (row + 1) rows rest
 
 abbrev behind : List Setting
-behind = Functions ∷ X ∷ Y ∷ []
+behind = Functions ∷ X ∷ Y ∷ PairSpeed 0 ∷ PairSpeed 1 ∷ PairSpeed 2 ∷ PairSpeed 3 ∷ PairDistance ∷ []
 
 abbrev pub settings : Settings → List Setting
 settings s = Vmax ∷ Tick ∷ Bts ∷ ofRows 0 (rowsOf s) behind
@@ -151,11 +151,17 @@ module _ (P : Setting → Type 0) where
     each h Functions of = in-rows h .1 .0
     each h X of = in-rows h .1 .1 .0
     each h Y of = in-rows h .1 .1 .1 .0
+    each h (PairSpeed pair) of =
+        let p = in-rows h .1 .1 .1 .1 in
+        from-at (λ pair. P (PairSpeed pair)) 0 4 (p .0, (p .1 .0, (p .1 .1 .0, (p .1 .1 .1 .0, tt)))) pair (omega arith) of
+    each h PairDistance of = in-rows h .1 .1 .1 .1 .1 .1 .1 .1 .0
 
     pub every : ((setting : Setting) → OfCard setting → P setting) → All P (settings s)
     every h =
+        let speed : (pair : ℕ) → pair < 4 → P (PairSpeed pair) = λ pair of. h (PairSpeed pair) of in
+        let pairs : All P (PairSpeed 0 ∷ PairSpeed 1 ∷ PairSpeed 2 ∷ PairSpeed 3 ∷ PairDistance ∷ []) = (speed 0 (lit< tt), (speed 1 (lit< tt), (speed 2 (lit< tt), (speed 3 (lit< tt), (h PairDistance tt, tt))))) in
         let rows = by-row 0 (rowsOf s) behind .1
-        (λ row low of. (h (Initial row) of, h (Last row) of, h (Drop row) of), (h Functions tt, (h X tt, (h Y tt, tt)))) in
+        (λ row low of. (h (Initial row) of, h (Last row) of, h (Drop row) of), (h Functions tt, (h X tt, (h Y tt, pairs)))) in
         (h Vmax tt, (h Tick tt, (h Bts tt, rows)))
 
 -- ---- the test of each, on a card of a kind
@@ -170,6 +176,8 @@ test kind v s (Drop row) = leb 1 (rowOf s row .drop)
 test kind v s Functions = leb (s .functions) (functionsTop v)
 test kind v s X = rangedIf (reminds (s .functions)) 2 6000 (s .x)
 test kind v s Y = rangedIf (reminds (s .functions)) 1 5000 (s .y)
+test kind v s (PairSpeed pair) = pairSpeedMet v (speedOf (s .pairs) pair)
+test kind v s PairDistance = rangedIf (eqb v 3) 1 50 (s .pairs .distance)
 
 -- the definition's list of checks is that of the settings
 pub listed : (kind : Kind) (v : ℕ) (s : Settings) → settingsChecks kind v s ≡ checksFor (placeOf kind) offset (test kind v s) (settings s)
@@ -214,6 +222,36 @@ ranged-in f lo hi x m = cases (reminds f) refl
     cases true e = let r = m .0 (eqb-true _ _ e) in met-within (r .0) (r .1)
     cases false e = let n = eqb-false (f / 4 % 2) 1 e in eq-eqb x 0 (m .1 (omega arith))
 
+-- a pair's speed, once over the four
+four-out : (x : ℕ) → isPairSpeed x ≡ true → OneOfFour x
+four-out x h = cases (eqb x 30) refl (eqb x 40) refl (eqb x 50) refl (eqb x 70) refl h
+  where
+    cases : (a : Bool) → eqb x 30 ≡ a → (b : Bool) → eqb x 40 ≡ b → (c : Bool) → eqb x 50 ≡ c → (d : Bool) → eqb x 70 ≡ d
+        → (a || b || c || d) ≡ true → OneOfFour x
+    cases true ea b eb c ec d ed h = inl (eqb-true x 30 ea)
+    cases false ea true eb c ec d ed h = inr (inl (eqb-true x 40 eb))
+    cases false ea false eb true ec d ed h = inr (inr (inl (eqb-true x 50 ec)))
+    cases false ea false eb false ec true ed h = inr (inr (inr (eqb-true x 70 ed)))
+    cases false ea false eb false ec false ed h = let z : _≡_ {A = ℕ} 0 1 = cc in absurd (omega arith)
+
+four-in : (x : ℕ) → OneOfFour x → isPairSpeed x ≡ true
+four-in x = ⊎-elim (λ e. rw e) (⊎-elim (λ e. rw e) (⊎-elim (λ e. rw e) (λ e. rw e)))
+
+-- what is asked beside version 3, and 0 beside every other
+beside-3-out : {P : Type 0} (v x : ℕ) (t : Bool) → (t ≡ true → P) → pick (eqb v 3) t (eqb x 0) ≡ true → (v ≡ 3 → P) × ((v ≡ 3 → ⊥) → x ≡ 0)
+beside-3-out {P} v x t out h = cases (eqb v 3) refl h
+  where
+    cases : (b : Bool) → eqb v 3 ≡ b → pick b t (eqb x 0) ≡ true → (v ≡ 3 → P) × ((v ≡ 3 → ⊥) → x ≡ 0)
+    cases true e h = (λ _. out h, λ other. absurd (other (eqb-true v 3 e)))
+    cases false e h = (λ three. absurd (eqb-false v 3 e three), λ _. eqb-true x 0 h)
+
+beside-3-in : {P : Type 0} (v x : ℕ) (t : Bool) → (P → t ≡ true) → (v ≡ 3 → P) → ((v ≡ 3 → ⊥) → x ≡ 0) → pick (eqb v 3) t (eqb x 0) ≡ true
+beside-3-in v x t met this other = cases (eqb v 3) refl
+  where
+    cases : (b : Bool) → eqb v 3 ≡ b → pick b t (eqb x 0) ≡ true
+    cases true e = met (this (eqb-true v 3 e))
+    cases false e = eq-eqb x 0 (other (eqb-false v 3 e))
+
 pub test-met : (kind : Kind) (v : ℕ) (s : Settings) (setting : Setting) → test kind v s setting ≡ true → SettingMet kind v s setting
 test-met kind v s Vmax h = within-met h
 test-met kind v s Tick h = within-met h
@@ -224,6 +262,8 @@ test-met kind v s (Drop row) h = leb-true _ _ h
 test-met kind v s Functions h = functions-out v (s .functions) h
 test-met kind v s X h = ranged-out (s .functions) 2 6000 (s .x) h
 test-met kind v s Y h = ranged-out (s .functions) 1 5000 (s .y) h
+test-met kind v s (PairSpeed pair) h = beside-3-out v _ _ (four-out (speedOf (s .pairs) pair)) h
+test-met kind v s PairDistance h = beside-3-out v _ _ within-met h
 
 pub met-test : (kind : Kind) (v : ℕ) (s : Settings) (setting : Setting) → SettingMet kind v s setting → test kind v s setting ≡ true
 met-test kind v s Vmax m = met-within (m .0) (m .1)
@@ -235,3 +275,5 @@ met-test kind v s (Drop row) m = le-leb _ _ m
 met-test kind v s Functions m = functions-in v (s .functions) (m .0) (m .1)
 met-test kind v s X m = ranged-in (s .functions) 2 6000 (s .x) m
 met-test kind v s Y m = ranged-in (s .functions) 1 5000 (s .y) m
+met-test kind v s (PairSpeed pair) m = beside-3-in v _ _ (four-in (speedOf (s .pairs) pair)) (m .0) (m .1)
+met-test kind v s PairDistance m = beside-3-in v _ _ (λ r. met-within (r .0) (r .1)) (m .0) (m .1)

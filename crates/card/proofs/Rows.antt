@@ -4,7 +4,7 @@ use native.Mathlib.Omega.{arith}
 use native.Mathlib.Nat.{add-zero}
 use native.Mathlib.Numerals.{add-one}
 use mathlib.Core.Path.{_≡_, refl, ap, _∙_}
-use mathlib.Core.Bool.{Bool, true, false}
+use mathlib.Core.Bool.{Bool, true, false, _&&_}
 use mathlib.Core.List.{List, [], _∷_, _++_}
 use mathlib.Core.Logic.{_↔_}
 use lib.Dec.{T, eqb}
@@ -15,7 +15,7 @@ use Rattle.leaf.specs.Bytes.{byte}
 use Rattle.leaf.specs.Choosing.{pick}
 use Rattle.leaf.specs.Checks.{Check, firstBad, Fine, numbered, allHold, all-hold}
 use Rattle.card.specs.Card.{baseKind, rowAt}
-use Rattle.card.specs.Ranges.{placeOf, headChecks, rowChecks, rowsOf, rowOf, rowsChecks, tailChecks, settingsInside, checksOf}
+use Rattle.card.specs.Ranges.{placeOf, headChecks, rowChecks, rowsOf, rowOf, rowsChecks, tailChecks, pairsChecks, settingsInside, checksOf}
 use Rattle.card.specs.Reading.{settingsOf}
 use Rattle.card.specs.Plain.{Within, SettingMet}
 use Rattle.card.specs.declared.Kind.{Kind}
@@ -26,8 +26,8 @@ use Rattle.card.proofs.Listed.{all-map, ofRows, by-row, test-met, met-t
 
 -- ---- "one rule stands once and is applied to eight rows" (02 e)
 
--- there are eight rows; of each three checks, between three and three others
-pub eight-rows : (v : ℕ) (s : Settings) → (length (rowsOf s) ≡ 8) × (length (checksOf v s) ≡ 3 + 3 * 8 + 3)
+-- there are eight rows; of each three checks, between three others and three with those of the pairs
+pub eight-rows : (v : ℕ) (s : Settings) → (length (rowsOf s) ≡ 8) × (length (checksOf v s) ≡ 3 + 3 * 8 + 3 + 5)
 eight-rows v s = (refl, refl)
 
 -- the three checks of the i-th of rows one behind the other are the one rule of that row
@@ -44,7 +44,7 @@ row-part kind offset (row ∷ rows) none rest (suc i) here =
 pub row-rule : (v : ℕ) (s : Settings) (i : ℕ) → i < 8 → take 3 (drop (3 + 3 * i) (checksOf v s)) ≡ rowChecks baseKind (4 + 4 * i) (rowOf s i)
 row-rule v s i here =
     let three : 3 + 3 * i ≡ suc (suc (suc (3 * i))) = omega arith in
-    rw three (row-part baseKind 4 (rowsOf s) (s .start) (tailChecks baseKind v s) i here)
+    rw three (row-part baseKind 4 (rowsOf s) (s .start) (tailChecks baseKind v s ++ pairsChecks baseKind v (s .pairs)) i here)
 
 -- at place 7 + 4i; its final's is one more and its drop's three more
 pub row-places : (i : ℕ) → i < 8
@@ -111,13 +111,18 @@ besides false cs = none-hold cs ∙ cases (allHold true cs)
     cases true = refl
     cases false = refl
 
+and-hold : (b : Bool) (cs : List Check) → allHold b cs ≡ (b && allHold true cs)
+and-hold true cs = refl
+and-hold false cs = none-hold cs
+
 -- whether all settings are in range, by whether the rows are: then what stands before them and behind them decides
 pub inside-by : (kind : Kind) (v : ℕ) (s : Settings) (t : Bool) → allHold true (rowsChecks baseKind 4 (rowsOf s)) ≡ t
-    → settingsInside kind v s ≡ pick t (allHold true (headChecks kind s ++ tailChecks kind v s)) false
+    → settingsInside kind v s ≡ pick t (allHold true (headChecks kind s ++ tailChecks kind v s) && allHold true (pairsChecks baseKind v (s .pairs))) false
 unfolding settingsInside
 inside-by kind v s t e =
-    ap (λ b. allHold b (tailChecks kind v s)) (besides (allHold true (headChecks kind s)) (rowsChecks kind 4 (rowsOf s)) ∙ ap (λ b. pick b (allHold true (headChecks kind s)) false) e) ∙ cases t
+    ap (λ b. allHold b (tailChecks kind v s ++ pairsChecks kind v (s .pairs))) (besides (allHold true (headChecks kind s)) (rowsChecks kind 4 (rowsOf s)) ∙ ap (λ b. pick b (allHold true (headChecks kind s)) false) e) ∙ cases t
   where
-    cases : (t : Bool) → allHold (pick t (allHold true (headChecks kind s)) false) (tailChecks kind v s) ≡ pick t (allHold true (headChecks kind s ++ tailChecks kind v s)) false
-    cases true = refl
+    cases : (t : Bool)
+        → allHold (pick t (allHold true (headChecks kind s)) false) (tailChecks kind v s ++ pairsChecks kind v (s .pairs)) ≡ pick t (allHold true (headChecks kind s ++ tailChecks kind v s) && allHold true (pairsChecks baseKind v (s .pairs))) false
+    cases true = and-hold (allHold true (headChecks kind s ++ tailChecks kind v s)) (pairsChecks kind v (s .pairs))
     cases false = refl

@@ -9,7 +9,7 @@ use Rattle.leaf.specs.Checks.{orFault}
 use Rattle.leaf.specs.Answers.{refused, refusedAt}
 use Rattle.card.specs.Card.{rowAt}
 use Rattle.card.specs.Ranges.{settingsFault, faultOf}
-use Rattle.card.specs.Reading.{functionsFrom, settingsFrom, answerBy, readCard}
+use Rattle.card.specs.Reading.{functionsFrom, pairsFrom, settingsFrom, answerBy, readCard}
 use Rattle.card.specs.Writing.{writeCard}
 use Rattle.card.specs.CardA.{card-A, cardA-at}
 use Rattle.card.specs.Plain.{CheckedAs, ReadAs, WrittenAs}
@@ -32,7 +32,7 @@ check-not-bare kind v s n way = elim way [ ]
 
 -- card A with length field 38 and vmax 79 is refused by 4, and not by 5 at 3
 pub four-before-five : readCard (card-A 0x26 0x01 79) 1 ≡ refused 4
-unfolding readCard answerBy orFault settingsFault faultOf settingsFrom functionsFrom rowAt byte word
+unfolding readCard answerBy orFault settingsFault faultOf settingsFrom functionsFrom pairsFrom rowAt byte word
 four-before-five = refl
 
 pub not-five-at-3 : ReadAs (card-A 0x26 0x01 79) 1 (refusedAt 5 3) → ⊥

@@ -10,7 +10,7 @@ use Rattle.leaf.specs.Bytes.{byte}
 use Rattle.leaf.specs.Answers.{refused}
 use Rattle.card.specs.Card.{baseKind, Same}
 use Rattle.card.specs.Ranges.{settingsFault, faultOf}
-use Rattle.card.specs.Reading.{functionsFrom, settingsFrom, settingsOf, readCard, paperOf}
+use Rattle.card.specs.Reading.{functionsFrom, pairsFrom, settingsFrom, settingsOf, readCard, paperOf}
 use Rattle.card.specs.Plain.{Known, HeaderMet, version-above}
 use Rattle.card.specs.declared.Settings.{Settings}
 use Rattle.card.specs.declared.Reading.{Reading}
@@ -26,6 +26,10 @@ above-refused area h known long above = read-exactly area h (refused 3) .1 (vers
 -- "A reader told to know version 1 refuses version 2 with 3"
 pub knows-1-refuses-2 : (area : List ℕ) → 3 ≤ length area → byte area 2 ≡ 2 → readCard area 1 ≡ refused 3
 knows-1-refuses-2 area long two = above-refused area 1 (lit≤ tt, lit≤ tt) long (rw two (lit≤ tt))
+
+-- 02 g: "a reader of highest 1 or 2 refuses version 3 by name"
+pub knows-older-refuses-3 : (area : List ℕ) (h : ℕ) → 1 ≤ h → h ≤ 2 → 3 ≤ length area → byte area 2 ≡ 3 → readCard area h ≡ refused 3
+knows-older-refuses-3 area h low high long three = above-refused area h (low, omega arith) long (rw three (omega arith))
 
 -- ---- version 1 and version 2
 
@@ -43,8 +47,14 @@ module _ (a b : List ℕ) (one : byte a 2 ≡ 1) (two : byte b 2 ≡ 2) (common 
   unfolding functionsFrom
   without = none
 
+  -- neither has pairs
+  same-pairless : pairsFrom baseKind 1 a ≡ pairsFrom baseKind 2 b
+  unfolding pairsFrom
+  same-pairless = refl
+
   same-12 : settingsFrom baseKind 1 a ≡ settingsFrom baseKind 2 b
-  same-12 = same-settings baseKind 1 2 a b common same-functions (λ on. let z : _≡_ {A = ℕ} 0 1 = cc (rw without at on) in absurd (omega arith))
+  same-12 =
+      same-settings baseKind 1 2 a b common same-functions (λ on. let z : _≡_ {A = ℕ} 0 1 = cc (rw without at on) in absurd (omega arith)) same-pairless
 
   -- the settings of a version 1 area and a version 2 area with the same common settings and functions 0 are the same
   pub same-card : settingsOf a ≡ settingsOf b

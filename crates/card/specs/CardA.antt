@@ -3,6 +3,7 @@ use Prim.Native.Nat.{ℕ}
 use mathlib.Core.List.{List, [], _∷_, _++_}
 use Rattle.leaf.specs.Answers.{Answer, given, refused}
 use Rattle.card.specs.Reading.{readCard}
+use Rattle.card.specs.Card.{noPairs}
 use Rattle.card.specs.Lines.{Line, line}
 use Rattle.card.specs.declared.Row.{Row}
 use Rattle.card.specs.declared.Settings.{Settings}
@@ -23,7 +24,7 @@ card-A length version vmax = 0x00 ∷ length ∷ version ∷ vmax ∷ settings-A
 abbrev pub card-A2 : List ℕ
 card-A2 = card-A 0x2C 0x02 0xA0 ++ (0x00 ∷ 0x00 ∷ 0x00 ∷ 0x00 ∷ 0x00 ∷ [])
 
-abbrev row : ℕ → ℕ → ℕ → ℕ → Row
+abbrev pub row : ℕ → ℕ → ℕ → ℕ → Row
 row initial last delay drop = record { initial = initial; last = last; delay = delay; drop = drop }
 
 -- what it says with another vmax, in numbers
@@ -44,6 +45,7 @@ cardA-at vmax =
       functions = 0;
       x = 0;
       y = 0;
+      pairs = noPairs;
     }
 
 -- what it says

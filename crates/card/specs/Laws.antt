@@ -52,14 +52,15 @@ numbered-by n p a m h = cases (eqb n 0) refl (eqb n 5) h
 
 -- ---- the writer's buffer
 
-lengths : (b : Bool) → pick b 39 44 ≤ 44
-lengths true = lit≤ tt
-lengths false = lit≤ tt
+lengths : (b c : Bool) → pick b 39 (pick c 44 49) ≤ 49
+lengths true c = lit≤ tt
+lengths false true = lit≤ tt
+lengths false false = lit≤ tt
 
-pub lengthOf-le : (v : ℕ) → lengthOf v ≤ 44
-lengthOf-le v = lengths (eqb v 1)
+pub lengthOf-le : (v : ℕ) → lengthOf v ≤ 49
+lengthOf-le v = lengths (eqb v 1) (eqb v 2)
 
-pub length-bytesOf : (v : ℕ) (s : Settings) → length (bytesOf v s) ≡ 44
+pub length-bytesOf : (v : ℕ) (s : Settings) → length (bytesOf v s) ≡ 49
 unfolding bytesOf
 length-bytesOf v s = refl
 

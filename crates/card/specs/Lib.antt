@@ -6,3 +6,4 @@ pub mod Laws
 pub mod Plain
 pub mod Lines
 pub mod CardA
+pub mod CardC

@@ -4,10 +4,11 @@
 use Prim.Native.Nat.{ℕ, _+_, _*_, _/_, _%_, _≤_, _<_}
 use mathlib.Core.Path.{_≡_}
 use mathlib.Core.List.{List}
+use mathlib.Core.Logic.{_⊎_}
 use lib.ListN.{length}
 use Rattle.leaf.specs.Bytes.{byte, word}
 use Rattle.leaf.specs.Answers.{Answer, given, refused, refusedAt}
-use Rattle.card.specs.Card.{baseKind}
+use Rattle.card.specs.Card.{baseKind, speedOf}
 use Rattle.card.specs.Ranges.{rowOf}
 use Rattle.card.specs.Reading.{settingsOf}
 use Rattle.card.specs.declared.Kind.{Kind}
@@ -17,9 +18,14 @@ use Rattle.card.specs.declared.Settings.{Settings}
 abbrev pub Within : ℕ → ℕ → ℕ → Type 0
 Within lo hi x = (lo ≤ x) × (x ≤ hi)
 
+-- 02 g: "giving 30, 40, 50 or 70 km/h": one of them
+abbrev pub OneOfFour : ℕ → Type 0
+OneOfFour x = (x ≡ 30) ⊎ (x ≡ 40) ⊎ (x ≡ 50) ⊎ (x ≡ 70)
+
 -- ---- the settings, each with its place and range
 
--- what can be out of range on a card: of each row its initial, final and drop
+-- what can be out of range on a card: of each row its initial, final and drop; of pairs 10-10, 10-11, 11-10, 11-11, numbered 0 to 3, the
+-- speed
 pub data Setting : Type 0 where
   Vmax : Setting
   Tick : Setting
@@ -30,8 +36,10 @@ pub data Setting : Type 0 where
   Functions : Setting
   X : Setting
   Y : Setting
+  PairSpeed : ℕ → Setting
+  PairDistance : Setting
 
--- "eight rows": a setting that a card has
+-- "eight rows", and four pairs: a setting that a card has
 abbrev pub OfCard : Setting → Type 0
 OfCard Vmax = Unit
 OfCard Tick = Unit
@@ -42,9 +50,12 @@ OfCard (Drop row) = row < 8
 OfCard Functions = Unit
 OfCard X = Unit
 OfCard Y = Unit
+OfCard (PairSpeed pair) = pair < 4
+OfCard PairDistance = Unit
 
 -- how many bytes behind the first setting: "3 vmax .., 4–5 tick length .., 6 BTS speed .., 7–38 eight rows of four: initial, final,
--- delay, drop .. 39 functions .., 40–41 reminder X .., 42–43 reminder Y"
+-- delay, drop .. 39 functions .., 40–41 reminder X .., 42–43 reminder Y"; 02 g: "bytes 44–47, the speeds for pairs 10-10, 10-11, 11-10,
+-- 11-11 .. and byte 48, the pair distance"
 abbrev pub offset : Setting → ℕ
 offset Vmax = 0
 offset Tick = 1
@@ -55,6 +66,8 @@ offset (Drop row) = 4 + 4 * row + 3
 offset Functions = 36
 offset X = 37
 offset Y = 39
+offset (PairSpeed pair) = 41 + pair
+offset PairDistance = 45
 
 -- "Places are (first) byte positions"
 abbrev pub place : Kind → Setting → ℕ
@@ -63,10 +76,11 @@ place kind setting = kind .first + offset setting
 -- a kind whose places are bytes, and none of them 0
 pub record Placed (kind : Kind) : Type 0 where
   pub low : 1 ≤ kind .first
-  pub high : kind .first + 39 ≤ 255
+  pub high : kind .first + 45 ≤ 255
 
 -- the range of each, beside a version: "In a row initial 1..200, final 1..initial, delay any, drop ≥ 1."; "A version 1 card has
--- functions 0"; with bit 2 off "settings handed in must then have X and Y 0"
+-- functions 0"; with bit 2 off "settings handed in must then have X and Y 0"; 02 g: "each one of those four", "the pair distance 1..50 m",
+-- "settings handed in beside version 1 or 2 must have them 0"
 abbrev pub SettingMet : Kind → ℕ → Settings → Setting → Type 0
 SettingMet kind version s Vmax = Within (kind .«vmax_lowest») (kind .«vmax_highest») (s .vmax)
 SettingMet kind version s Tick = Within 10 1000 (s .tick)
@@ -77,6 +91,10 @@ SettingMet kind version s (Drop row) = 1 ≤ rowOf s row .drop
 SettingMet kind version s Functions = (version ≡ 1 → s .functions ≡ 0) × (s .functions ≤ 15)
 SettingMet kind version s X = (s .functions / 4 % 2 ≡ 1 → Within 2 6000 (s .x)) × (s .functions / 4 % 2 ≡ 0 → s .x ≡ 0)
 SettingMet kind version s Y = (s .functions / 4 % 2 ≡ 1 → Within 1 5000 (s .y)) × (s .functions / 4 % 2 ≡ 0 → s .y ≡ 0)
+SettingMet kind version s (PairSpeed pair) =
+    (version ≡ 3 → OneOfFour (speedOf (s .pairs) pair)) × ((version ≡ 3 → ⊥) → speedOf (s .pairs) pair ≡ 0)
+SettingMet kind version s PairDistance =
+    (version ≡ 3 → Within 1 50 (s .pairs .distance)) × ((version ≡ 3 → ⊥) → s .pairs .distance ≡ 0)
 
 -- every setting is in range
 abbrev pub RangesMet : Kind → ℕ → Settings → Type 0
@@ -91,7 +109,8 @@ pub record FirstOut (kind : Kind) (version : ℕ) (s : Settings) (at : ℕ) : Ty
   pub out : SettingMet kind version s setting → ⊥
   pub earlier : (other : Setting) → OfCard other → place kind other < at → SettingMet kind version s other
 
--- the ranges once more, of the bytes of a record: "A version 1 card has functions 0"; "With bit 2 off, bytes 40–43 are not looked at"
+-- the ranges once more, of the bytes of a record: "A version 1 card has functions 0"; "With bit 2 off, bytes 40–43 are not looked at"; 02 g:
+-- "Card version 3 is version 2 with bytes 44–47 .. and byte 48"
 pub record BytesMet (kind : Kind) (version : ℕ) (area : List ℕ) : Type 0 where
   pub vmax : Within (kind .«vmax_lowest») (kind .«vmax_highest») (byte area (place kind Vmax))
   pub tick : Within 10 1000 (word area (place kind Tick))
@@ -99,9 +118,11 @@ pub record BytesMet (kind : Kind) (version : ℕ) (area : List ℕ) : Type 0 whe
   pub initial : (row : ℕ) → row < 8 → Within 1 200 (byte area (place kind (Initial row)))
   pub last : (row : ℕ) → row < 8 → Within 1 (byte area (place kind (Initial row))) (byte area (place kind (Last row)))
   pub drop : (row : ℕ) → row < 8 → 1 ≤ byte area (place kind (Drop row))
-  pub functions : version ≡ 2 → byte area (place kind Functions) ≤ 15
-  pub reminder : version ≡ 2 → byte area (place kind Functions) / 4 % 2 ≡ 1
+  pub functions : 2 ≤ version → byte area (place kind Functions) ≤ 15
+  pub reminder : 2 ≤ version → byte area (place kind Functions) / 4 % 2 ≡ 1
       → Within 2 6000 (word area (place kind X)) × Within 1 5000 (word area (place kind Y))
+  pub speeds : version ≡ 3 → (pair : ℕ) → pair < 4 → OneOfFour (byte area (place kind (PairSpeed pair)))
+  pub distance : version ≡ 3 → Within 1 50 (byte area (place kind PairDistance))
 
 -- ---- how a check of settings ends
 
@@ -116,13 +137,13 @@ SettingsMet version s = RangesMet baseKind version s
 
 -- ---- how a reading ends
 
--- the versions there are: "not 1 or 2"
+-- the versions there are: 02 g: "2 and 6 now allow 3"
 abbrev pub Known : ℕ → Type 0
-Known version = Within 1 2 version
+Known version = Within 1 3 version
 
--- "The version 1 length, 39, and the version 2 length, 44": a version's length
+-- "The version 1 length, 39, and the version 2 length, 44"; 02 g: "length 49": a version's length
 abbrev pub LengthOf : ℕ → ℕ → Type 0
-LengthOf version n = (version ≡ 1 → n ≡ 39) × (version ≡ 2 → n ≡ 44)
+LengthOf version n = (version ≡ 1 → n ≡ 39) × (version ≡ 2 → n ≡ 44) × (version ≡ 3 → n ≡ 49)
 
 -- a header with which the settings are looked at
 pub record HeaderMet (area : List ℕ) (highest : ℕ) : Type 0 where
@@ -138,7 +159,7 @@ pub record CardMet (area : List ℕ) (highest : ℕ) : Type 0 where
 
 -- "Order: card reading 6, 1 (under 3), 2, 3, 4, 1 (record), 5": each way has what those before it ask for
 pub data ReadAs (area : List ℕ) (highest : ℕ) : Answer Settings → Type 0 where
-  -- "6 | reader's highest version not 1 or 2"
+  -- "6 | reader's highest version not 1 or 2", or (02 g) 3
   unknown-highest : (Known highest → ⊥) → ReadAs area highest (refused 6)
   -- "1 | card area under 3 bytes"
   under-3 : Known highest → length area < 3 → ReadAs area highest (refused 1)
@@ -167,7 +188,7 @@ pub record WriteMet (version : ℕ) (s : Settings) (room : ℕ) : Type 0 where
 
 -- "writing 2, 5, 13": each way has what those before it ask for
 pub data WrittenAs (version : ℕ) (s : Settings) (room : ℕ) : Answer Unit → Type 0 where
-  -- "2 | .. (writer: not 1 or 2)"
+  -- "2 | .. (writer: not 1 or 2)", or (02 g) 3
   unknown-version : (Known version → ⊥) → WrittenAs version s room (refused 2)
   -- "5 | setting out of range, with place of the first"
   out-of-range : Known version → (at : ℕ) → FirstOut baseKind version s at → WrittenAs version s room (refusedAt 5 at)

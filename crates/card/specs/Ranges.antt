@@ -1,17 +1,18 @@
--- Document 01, "The card": the range of each setting, with the place that refusal 5 gives where it is not met. Each is so many bytes
+-- Document 01, "The card", and 02 g: the range of each setting, with the place that refusal 5 gives where it is not met. Each is so many bytes
 -- behind the first setting of the card's kind, and the range of vmax is the kind's.
 use Prim.Native.Nat.{ℕ, _+_, _%_}
 use mathlib.Core.List.{List, [], _∷_, _++_}
-use mathlib.Core.Bool.{Bool, true}
+use mathlib.Core.Bool.{Bool, true, _||_}
 use lib.Dec.{leb, eqb}
 use lib.ListN.{getD}
 use Rattle.leaf.specs.Choosing.{pick}
 use Rattle.leaf.specs.Numbers.{within}
 use Rattle.leaf.specs.Checks.{Check, firstBad, allHold}
 use Rattle.leaf.specs.Answers.{Answer, given, refusedAt}
-use Rattle.card.specs.Card.{baseKind, reminds}
+use Rattle.card.specs.Card.{baseKind, speedsOf, reminds}
 use Rattle.card.specs.declared.Kind.{Kind}
 use Rattle.card.specs.declared.Row.{Row}
+use Rattle.card.specs.declared.Pairs.{Pairs}
 use Rattle.card.specs.declared.Settings.{Settings}
 use Rattle.card.specs.declared.Checked.{Checked}
 use Rattle.card.specs.declared.Checked.the-variants.{InRange, FaultAt}
@@ -82,10 +83,33 @@ tailChecks kind version s =
     ∷ (placeOf kind 39, rangedIf (reminds (s .functions)) 1 5000 (s .y))
     ∷ []
 
+-- ---- the pairs (02 g): one rule of a speed, applied to four
+
+-- "giving 30, 40, 50 or 70 km/h"
+abbrev pub isPairSpeed : ℕ → Bool
+isPairSpeed speed = eqb speed 30 || eqb speed 40 || eqb speed 50 || eqb speed 70
+
+-- "the speeds for pairs .., each one of those four"; "settings handed in beside version 1 or 2 must have them 0"
+abbrev pub pairSpeedMet : ℕ → ℕ → Bool
+pairSpeedMet version speed = pick (eqb version 3) (isPairSpeed speed) (eqb speed 0)
+
+-- the rule of each speed in turn, each one byte further than the one before it; "Bytes 44..47 may be equal" (g1)
+abbrev pub speedsChecks : Kind → ℕ → ℕ → List ℕ → List Check
+speedsChecks kind version offset [] = []
+speedsChecks kind version offset (speed ∷ rest) = (placeOf kind offset, pairSpeedMet version speed) ∷ speedsChecks kind version (offset + 1) rest
+
+-- "byte 48, the pair distance 1..50 m"; "5 at 44 to 48": "Places 44, 45, 46, 47, 48 follow 42" (g1)
+abbrev pub pairsChecks : Kind → ℕ → Pairs → List Check
+pairsChecks kind version pairs =
+    speedsChecks kind version 41 (speedsOf pairs)
+    ++ (placeOf kind 45, rangedIf (eqb version 3) 1 50 (pairs .distance))
+    ∷ []
+
 -- ---- all of them, on a card of a kind
 
 abbrev pub settingsChecks : Kind → ℕ → Settings → List Check
-settingsChecks kind version s = headChecks kind s ++ rowsChecks kind 4 (rowsOf s) ++ tailChecks kind version s
+settingsChecks kind version s =
+    headChecks kind s ++ rowsChecks kind 4 (rowsOf s) ++ tailChecks kind version s ++ pairsChecks kind version (s .pairs)
 
 -- the place of the first setting out of range, 0 where there is none
 unfoldable pub settingsFault : Kind → ℕ → Settings → ℕ
@@ -118,6 +142,6 @@ checksOf version s = settingsChecks baseKind version s
 unfoldable pub faultOf : ℕ → Settings → ℕ
 faultOf version s = settingsFault baseKind version s
 
--- "opening takes no version": it asks as beside version 2
+-- 02 g: "the opening now takes the version, and judges version and settings as the writer does (2, then 5)"
 unfoldable pub checkSettings : ℕ → Settings → Answer Unit
 checkSettings version s = foundAt (faultOf version s)

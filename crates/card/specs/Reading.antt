@@ -1,4 +1,4 @@
--- Document 01, "The card" and refusals 1 to 6: what an area of bytes reads as.
+-- Document 01, "The card" and refusals 1 to 6, and 02 g: what an area of bytes reads as.
 use Prim.Native.Nat.{ℕ, _+_}
 use mathlib.Core.List.{List, [], _∷_}
 use mathlib.Core.Bool.{Bool, not}
@@ -8,12 +8,16 @@ use Rattle.leaf.specs.Choosing.{pick}
 use Rattle.leaf.specs.Bytes.{byte, word}
 use Rattle.leaf.specs.Checks.{Check, firstBad}
 use Rattle.leaf.specs.Answers.{Answer, given, refused, refusedAt, refusalOf}
-use Rattle.card.specs.Card.{baseKind, lengthOf, known, rowAt, reminds}
+use Rattle.card.specs.Card.{baseKind, lengthOf, known, rowAt, noPairs, pairsAt, reminds}
 use Rattle.card.specs.Ranges.{faultOf}
 use Rattle.card.specs.declared.Kind.{Kind}
+use Rattle.card.specs.declared.Pairs.{Pairs}
 use Rattle.card.specs.declared.Settings.{Settings}
+use Rattle.card.specs.declared.Card.{Card}
 use Rattle.card.specs.declared.Reading.{Reading}
 use Rattle.card.specs.declared.Reading.the-variants.{Read, Refused}
+use Rattle.card.specs.declared.Found.{Found}
+use Rattle.card.specs.declared.Found.the-variants as found
 
 -- ---- the settings of an area
 
@@ -24,6 +28,11 @@ functionsFrom kind version area = pick (eqb version 1) 0 (byte area (kind .first
 -- "With bit 2 off, bytes 40–43 are not looked at and X, Y read as 0"
 abbrev pub kept : Bool → ℕ → ℕ
 kept on x = pick on x 0
+
+-- 02 g: "Card version 3 is version 2 with bytes 44–47, the speeds .., and byte 48, the pair distance"; "Those cards read bytes 44 to 48 as
+-- 0": "Nothing behind a version 1 or 2 record is looked at" (g3)
+unfoldable pub pairsFrom : Kind → ℕ → List ℕ → Pairs
+pairsFrom kind version area = pick (eqb version 3) (pairsAt area (kind .first + 41)) noPairs
 
 -- the settings of an area that holds a record of a kind and version; "Big-endian": a word is high byte first
 unfoldable pub settingsFrom : Kind → ℕ → List ℕ → Settings
@@ -43,6 +52,7 @@ settingsFrom kind version area =
       functions = functionsFrom kind version area;
       x = kept (reminds (functionsFrom kind version area)) (word area (kind .first + 37));
       y = kept (reminds (functionsFrom kind version area)) (word area (kind .first + 39));
+      pairs = pairsFrom kind version area;
     }
 
 -- this card's settings: the version is byte 2
@@ -52,7 +62,7 @@ settingsOf area = settingsFrom baseKind (byte area 2) area
 -- ---- the refusals
 
 -- "Order: card reading 6, 1 (under 3), 2, 3, 4, 1 (record), 5"
--- 6 reader's highest version not 1 or 2
+-- 6 reader's highest version not 1 or 2, or (02 g) 3
 -- 1 card area under 3 bytes, or shorter than its record
 -- 2 card version 0
 -- 3 card version above the reader's highest
@@ -87,3 +97,20 @@ readCard area highest = answerBy (firstBad 0 (cardChecks area highest)) (faultOf
 abbrev pub paperOf : Reading → Answer Settings
 paperOf (Read s) = given s
 paperOf (Refused why) = refusalOf why
+
+-- ---- the card: 02 g: "the opening now takes the version"
+
+-- what a reader answers, with a version beside it
+abbrev pub besideVersion : ℕ → Answer Settings → Answer Card
+besideVersion version (given s) = given (record { version = version; settings = s })
+besideVersion version (refused n) = refused n
+besideVersion version (refusedAt n place) = refusedAt n place
+
+-- the card in an area: its version is byte 2
+unfoldable pub cardIn : List ℕ → ℕ → Answer Card
+cardIn area highest = besideVersion (byte area 2) (readCard area highest)
+
+-- what each case of it is on paper
+abbrev pub foundOf : Found → Answer Card
+foundOf (found.Read card) = given card
+foundOf (found.Refused why) = refusalOf why

@@ -1,4 +1,4 @@
--- Document 01, "The card" and refusals 2, 5 and 13: what the writer answers, and what it leaves in the buffer lent to it.
+-- Document 01, "The card" and refusals 2, 5 and 13, and 02 g: what the writer answers, and what it leaves in the buffer lent to it.
 use Prim.Native.Nat.{ℕ}
 use mathlib.Core.List.{List, [], _∷_, _++_}
 use mathlib.Core.Bool.{Bool}
@@ -7,10 +7,11 @@ use lib.ListN.{take, drop}
 use Rattle.leaf.specs.Bytes.{pair}
 use Rattle.leaf.specs.Checks.{Check, firstBad}
 use Rattle.leaf.specs.Answers.{Answer, given, refused, refusedAt, refusalOf}
-use Rattle.card.specs.Card.{lengthOf, known}
+use Rattle.card.specs.Card.{lengthOf, known, speedsOf}
 use Rattle.card.specs.Ranges.{faultOf}
 use Rattle.card.specs.Reading.{answerBy}
 use Rattle.card.specs.declared.Row.{Row}
+use Rattle.card.specs.declared.Pairs.{Pairs}
 use Rattle.card.specs.declared.Settings.{Settings}
 use Rattle.card.specs.declared.Written.{Written}
 use Rattle.card.specs.declared.Written.the-variants.{Done, NotWritten}
@@ -21,13 +22,17 @@ use Rattle.card.specs.declared.Written.the-variants.{Done, NotWritten}
 abbrev pub rowBytes : Row → List ℕ
 rowBytes row = row .initial ∷ row .last ∷ row .delay ∷ row .drop ∷ []
 
--- the settings in their order, from vmax to Y; "Big-endian". With bit 2 off X and Y are 0, so that the writer "zeroes silent bytes"
+-- 02 g: "bytes 44–47, the speeds .., and byte 48, the pair distance"
+abbrev pub pairsBytes : Pairs → List ℕ
+pairsBytes pairs = speedsOf pairs ++ (pairs .distance ∷ [])
+
+-- the settings in their order, from vmax to the pair distance; "Big-endian". With bit 2 off X and Y are 0, so that the writer "zeroes silent bytes"
 abbrev pub settingsBytes : Settings → List ℕ
 settingsBytes s =
     (s .vmax ∷ []) ++ pair (s .tick) ++ (s .bts ∷ [])
     ++ rowBytes (s .«conditional_clear») ++ rowBytes (s .announcement) ++ rowBytes (s .preannouncement) ++ rowBytes (s .caution)
     ++ rowBytes (s .«before_stop») ++ rowBytes (s .crossing) ++ rowBytes (s .limit) ++ rowBytes (s .start)
-    ++ (s .functions ∷ []) ++ pair (s .x) ++ pair (s .y)
+    ++ (s .functions ∷ []) ++ pair (s .x) ++ pair (s .y) ++ pairsBytes (s .pairs)
 
 -- "Bytes 0–1 length of the whole record, 2 version", then the settings: as many bytes as the longest record has
 unfoldable pub bytesOf : ℕ → Settings → List ℕ
@@ -40,7 +45,7 @@ recordOf version s = take (lengthOf version) (bytesOf version s)
 -- ---- the refusals
 
 -- "writing 2, 5, 13"
--- 2 card version .. (writer: not 1 or 2)
+-- 2 card version .. (writer: not 1 or 2, or (02 g) 3)
 -- 5 setting out of range
 -- 13 writer's buffer shorter than the record
 abbrev pub writeChecks : ℕ → Bool → ℕ → List Check

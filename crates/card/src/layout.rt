@@ -1,6 +1,7 @@
 // Where the settings stand on the card: bytes to settings, and settings to bytes. What is read stands so many bytes
 // behind the first setting of the card's kind.
 use crate::Kind;
+use crate::Pairs;
 use crate::Row;
 use crate::Settings;
 use crate::ranges::has_reminder;
@@ -14,14 +15,18 @@ ghost use mathlib.Core.Path.{_≡_};
 ghost use Prim.Native.Nat.{_+_};
 ghost use Rattle.leaf.specs.Bytes.{byte, word};
 ghost use Rattle.card.specs.Card.{rowAt, lengthOf};
-ghost use Rattle.card.specs.Reading.{functionsFrom, settingsFrom};
+ghost use Rattle.card.specs.Reading.{functionsFrom, pairsFrom, settingsFrom};
 ghost use Rattle.card.specs.Writing.{bytesOf};
 
 // The length of a record of this version.
 pub fn length_of(version: u8) -> u16
     ensures { λ r. ⌜ r ≡ lengthOf version ⌝ }
 {
-    choose16(version == 1, Settings::LENGTH_1, Settings::LENGTH_2)
+    choose16(
+        version == 1,
+        Settings::LENGTH_1,
+        choose16(version == 2, Settings::LENGTH_2, Settings::LENGTH_3),
+    )
 }
 
 fn byte_from(area: &[u8], kind: Kind, offset: u8) -> u8
@@ -56,6 +61,24 @@ fn functions_from(kind: Kind, version: u8, area: &[u8]) -> u8
     choose8(version == 1, 0, there)
 }
 
+// The pairs of a version 3 card. Cards of other versions have none, whatever stands behind them.
+fn pairs_from(kind: Kind, version: u8, area: &[u8]) -> Pairs
+    ensures { λ r. ⌜ r ≡ pairsFrom kind version (now (area .entry)) ⌝ }
+{
+    let there = version == 3;
+    if there {
+        let at = (kind.first as usize) + 41;
+        return Pairs {
+            ten_ten: byte_at(area, at),
+            ten_eleven: byte_at(area, at + 1),
+            eleven_ten: byte_at(area, at + 2),
+            eleven_eleven: byte_at(area, at + 3),
+            distance: byte_at(area, at + 4),
+        };
+    }
+    Pairs::NONE
+}
+
 impl Kind {
     // The settings of an area that holds a record of this kind and version.
     pub fn settings_from(self, version: u8, area: &[u8]) -> Settings
@@ -80,12 +103,13 @@ impl Kind {
             functions,
             x: choose16(on, x, 0),
             y: choose16(on, y, 0),
+            pairs: pairs_from(self, version, area),
         }
     }
 }
 
 // The bytes of the longest record; those of a shorter one come first among them.
-pub fn encode(version: u8, s: Settings) -> [u8; 44]
+pub fn encode(version: u8, s: Settings) -> [u8; 49]
     ensures { λ r. ⌜ r ≡ bytesOf version s ⌝ }
 {
     let n = length_of(version);
@@ -134,5 +158,10 @@ pub fn encode(version: u8, s: Settings) -> [u8; 44]
         low(s.x),
         high(s.y),
         low(s.y),
+        s.pairs.ten_ten,
+        s.pairs.ten_eleven,
+        s.pairs.eleven_ten,
+        s.pairs.eleven_eleven,
+        s.pairs.distance,
     ]
 }

@@ -17,12 +17,12 @@ use leaf::or_fault;
 use leaf::word_at;
 ghost use mathlib.Core.Path.{_≡_};
 ghost use lib.ListN.{length};
-ghost use Rattle.leaf.specs.Bytes.{over};
+ghost use Rattle.leaf.specs.Bytes.{byte, over};
 ghost use Rattle.leaf.specs.Checks.{firstBad};
 ghost use Rattle.leaf.specs.Answers.{isGiven};
 ghost use Rattle.card.specs.Card.{known, lengthOf, functionsOf};
 ghost use Rattle.card.specs.Ranges.{faultOf, checkedOf, checkSettings};
-ghost use Rattle.card.specs.Reading.{paperOf, answerBy, readChecks, readCard};
+ghost use Rattle.card.specs.Reading.{paperOf, answerBy, readChecks, readCard, foundOf, cardIn};
 ghost use Rattle.card.specs.Writing.{writtenOf, written, writeChecks, writeCard, bytesOf, leaves};
 
 // A kind of card: the place of its first setting, and the range of vmax in km/h. Every kind has the same settings in the
@@ -51,7 +51,27 @@ pub struct Row {
     pub drop: u8,
 }
 
-// What a card says. A version 1 card has functions, x and y 0.
+// What pairs of limit beacons set: the speeds in km/h for pairs 10-10, 10-11, 11-10, 11-11, and the pair distance in metres.
+pub struct Pairs {
+    pub ten_ten: u8,
+    pub ten_eleven: u8,
+    pub eleven_ten: u8,
+    pub eleven_eleven: u8,
+    pub distance: u8,
+}
+
+impl Pairs {
+    // What a card of version 1 or 2 has.
+    pub const NONE: Pairs = Pairs {
+        ten_ten: 0,
+        ten_eleven: 0,
+        eleven_ten: 0,
+        eleven_eleven: 0,
+        distance: 0,
+    };
+}
+
+// What a card says. A version 1 card has functions, x and y 0; all of pairs is 0 on a version 1 or 2 card.
 pub struct Settings {
     pub vmax: u8,
     pub tick: u16,
@@ -67,6 +87,13 @@ pub struct Settings {
     pub functions: u8,
     pub x: u16,
     pub y: u16,
+    pub pairs: Pairs,
+}
+
+// A card: its version, and beside it what it says. Opening and desk go by both.
+pub struct Card {
+    pub version: u8,
+    pub settings: Settings,
 }
 
 impl Settings {
@@ -75,6 +102,9 @@ impl Settings {
 
     // The length of a version 2 record.
     pub const LENGTH_2: u16 = 44;
+
+    // The length of a version 3 record.
+    pub const LENGTH_3: u16 = 49;
 }
 
 // The functions of a card, by name: protected crossing, stop zone, reminder, BTS reads beacons 4, 9, 10 and 11.
@@ -93,6 +123,12 @@ pub enum Checked {
 
 pub enum Reading {
     Read(Settings),
+    Refused(Refusal),
+}
+
+// A card that was read, its version beside what it says, or why it was not.
+pub enum Found {
+    Read(Card),
     Refused(Refusal),
 }
 
@@ -115,7 +151,7 @@ pub fn functions_of(byte: u8) -> Functions
 
 // ---- the settings' check
 
-// Are the settings in range beside this version. The opening, which has no version, asks as beside version 2.
+// Are the settings in range beside this version, as writer and opening ask.
 pub fn check(version: u8, s: Settings) -> Checked
     ensures { λ r. ⌜ checkedOf r ≡ checkSettings version s ⌝ }
 {
@@ -129,13 +165,21 @@ pub fn is_in_range(version: u8, s: Settings) -> bool
     Kind::BASE.is_in_range(version, s)
 }
 
-fn is_known(version: u8) -> bool
+// Is there a card of this version.
+pub fn is_known(version: u8) -> bool
     ensures { λ r. ⌜ r ≡ known version ⌝ }
 {
-    in_range(1, 2, version as u16)
+    in_range(1, 3, version as u16)
 }
 
 // ---- reading
+
+// The version that an area states: its byte 2, 0 where it has none.
+pub fn version_of(area: &[u8]) -> u8
+    ensures { λ r. ⌜ r ≡ byte (now (area .entry)) 2 ⌝ }
+{
+    byte_at(area, 2)
+}
 
 // The number of the first refusal that is due, 0 where none is; fine says whether the settings are in range.
 fn read_refusal(area: &[u8], highest: u8, fine: bool) -> u8
@@ -182,6 +226,21 @@ pub fn read(area: &[u8], highest: u8) -> Reading
     let place = Kind::BASE.fault(version, s);
     let number = read_refusal(area, highest, place == 0);
     Reading::by_number(number, place, s)
+}
+
+// The card in the area: what the reader answers, with the version that the area states beside it.
+pub fn card_in(area: &[u8], highest: u8) -> Found
+    ensures { λ r. ⌜ foundOf r ≡ cardIn (now (area .entry)) highest ⌝ }
+{
+    let version = version_of(area);
+    let reading = read(area, highest);
+    match reading {
+        Reading::Read(settings) => Found::Read(Card {
+            version: version,
+            settings: settings,
+        }),
+        Reading::Refused(why) => Found::Refused(why),
+    }
 }
 
 // ---- writing

@@ -1,6 +1,7 @@
 // The ranges of the settings, each with its place: so many bytes behind the first setting of the card's kind.
 use crate::Checked;
 use crate::Kind;
+use crate::Pairs;
 use crate::Row;
 use crate::Settings;
 use crate::functions_of;
@@ -11,10 +12,10 @@ ghost use mathlib.Core.Path.{_≡_};
 ghost use mathlib.Core.Bool.{true};
 ghost use Prim.Native.Nat.{_+_, _*_};
 ghost use Rattle.leaf.specs.Numbers.{within};
-ghost use lib.Dec.{leb};
+ghost use lib.Dec.{leb, eqb};
 ghost use Rattle.leaf.specs.Checks.{orFault, firstBad, allHold};
 ghost use Rattle.card.specs.Card.{baseKind, reminds};
-ghost use Rattle.card.specs.Ranges.{placeOf, rangedIf, functionsTop, headChecks, rowChecks, rowsOf, rowOf, rowsChecks, tailChecks, settingsFault, settingsInside, checkOf, checkedOf};
+ghost use Rattle.card.specs.Ranges.{placeOf, rangedIf, functionsTop, headChecks, rowChecks, rowsOf, rowOf, rowsChecks, tailChecks, isPairSpeed, pairSpeedMet, pairsChecks, settingsFault, settingsInside, checkOf, checkedOf};
 
 // The place so many bytes behind the first setting.
 fn place(kind: Kind, offset: u16) -> u8
@@ -186,6 +187,60 @@ fn tail_fault(found: u8, kind: Kind, version: u8, s: Settings) -> u8
     fault_at(f, kind, 39, y_inside(s))
 }
 
+// ---- the pairs: one rule of a speed, and the four speeds that it is applied to
+
+// One of the four speeds that a pair may give.
+fn is_pair_speed(speed: u8) -> bool
+    ensures { λ r. ⌜ r ≡ isPairSpeed speed ⌝ }
+{
+    (speed == 30) | (speed == 40) | (speed == 50) | (speed == 70)
+}
+
+// The rule of a pair's speed: one of the four beside version 3, else 0.
+fn speed_inside(version: u8, speed: u8) -> bool
+    ensures { λ r. ⌜ r ≡ pairSpeedMet version speed ⌝ }
+{
+    let paired = version == 3;
+    if paired {
+        return is_pair_speed(speed);
+    }
+    speed == 0
+}
+
+fn distance_inside(version: u8, pairs: Pairs) -> bool
+    ensures { λ r. ⌜ r ≡ rangedIf (eqb version 3) 1 50 (pairs .distance) ⌝ }
+{
+    ranged_if(version == 3, 1, 50, pairs.distance as u16)
+}
+
+// The rule applied to each speed, and the distance: what was found before, or the first fault, or 0.
+fn pairs_fault(found: u8, kind: Kind, version: u8, pairs: Pairs) -> u8
+    ensures { λ f. ⌜ f ≡ firstBad found (pairsChecks kind version pairs) ⌝ }
+{
+    let f = fault_at(found, kind, 41, speed_inside(version, pairs.ten_ten));
+    let f = fault_at(f, kind, 42, speed_inside(version, pairs.ten_eleven));
+    let f = fault_at(f, kind, 43, speed_inside(version, pairs.eleven_ten));
+    let f = fault_at(f, kind, 44, speed_inside(version, pairs.eleven_eleven));
+    fault_at(f, kind, 45, distance_inside(version, pairs))
+}
+
+// The same without a place: what a session asks at each sample.
+fn pairs_inside(version: u8, pairs: Pairs) -> bool
+    ensures { λ r. ⌜ r ≡ allHold true (pairsChecks baseKind version pairs) ⌝ }
+{
+    let paired = version == 3;
+    if paired {
+        let ten = is_pair_speed(pairs.ten_ten) & is_pair_speed(pairs.ten_eleven);
+        let speeds = ten & is_pair_speed(pairs.eleven_ten) & is_pair_speed(pairs.eleven_eleven);
+        return speeds & byte_inside(1, 50, pairs.distance);
+    }
+    let none = (pairs.ten_ten == 0)
+        & (pairs.ten_eleven == 0)
+        & (pairs.eleven_ten == 0)
+        & (pairs.eleven_eleven == 0);
+    none & (pairs.distance == 0)
+}
+
 impl Kind {
     // The place of the first setting out of range beside this version, 0 where there is none.
     pub fn fault(self, version: u8, s: Settings) -> u8
@@ -193,7 +248,8 @@ impl Kind {
     {
         let f = head_fault(self, s);
         let f = rows_fault(f, self, s);
-        tail_fault(f, self, version, s)
+        let f = tail_fault(f, self, version, s);
+        pairs_fault(f, self, version, s.pairs)
     }
 
     // Are the settings in range beside this version, on a card of this kind.
@@ -217,6 +273,7 @@ impl Kind {
             return false;
         }
         let head = vmax_inside(self, s) & tick_inside(s) & bts_inside(s);
-        head & functions_inside(version, s) & x_inside(s) & y_inside(s)
+        let older = head & functions_inside(version, s) & x_inside(s) & y_inside(s);
+        older & pairs_inside(version, s.pairs)
     }
 }
