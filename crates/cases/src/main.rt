@@ -6,11 +6,12 @@
 //     tone BITS        what the tone with this bit pattern reads as under the sheet in the area
 //     .. N             both may go on: of the area its first N bytes alone
 //     .. N P V         and of them with V for the byte at place P
-//     write V N F      the settings in the area's bytes 3 to 43, whatever they are, beside version V, into N bytes that all hold F
+//     write V N F      the settings in the area's bytes 3 to 48, whatever they are, beside version V, into N bytes that all hold F
 //
 // Everything behind the first word is hexadecimal, two digits a byte; blanks between bytes are passed over. A card that is read is
 // answered with its settings in the card's order, one that is written with the whole buffer afterwards, `-` where it is empty, a tone
 // with its offset's bit pattern and the ride's beacon code.
+use card::Pairs;
 use card::Reading;
 use card::Row;
 use card::Settings;
@@ -125,10 +126,19 @@ fn put_three(out: &mut [u8], at: usize, a: u8, b: u16, c: u16) -> usize {
     put_labelled(out, at, b" ", c as u32)
 }
 
+fn put_pairs(out: &mut [u8], at: usize, pairs: Pairs) -> usize {
+    let ten_eleven = pairs.ten_eleven as u16;
+    let eleven_ten = pairs.eleven_ten as u16;
+    let at = put_three(out, at, pairs.ten_ten, ten_eleven, eleven_ten);
+    let at = put_labelled(out, at, b" ", pairs.eleven_eleven as u32);
+    put_labelled(out, at, b" ", pairs.distance as u32)
+}
+
 fn put_settings(out: &mut [u8], at: usize, s: Settings) -> usize {
     let at = put_three(out, at, s.vmax, s.tick, s.bts as u16);
     let at = put_rows(out, at, s);
-    put_three(out, at, s.functions, s.x, s.y)
+    let at = put_three(out, at, s.functions, s.x, s.y);
+    put_pairs(out, at, s.pairs)
 }
 
 fn put_refused(out: &mut [u8], at: usize, why: Refusal) -> usize {
@@ -208,7 +218,17 @@ fn row_at(card: &[u8], at: u8) -> Row {
     }
 }
 
-// The settings in the bytes of a version 2 card, in range or not.
+fn pairs_in(card: &[u8]) -> Pairs {
+    Pairs {
+        ten_ten: byte_at(card, 44),
+        ten_eleven: byte_at(card, 45),
+        eleven_ten: byte_at(card, 46),
+        eleven_eleven: byte_at(card, 47),
+        distance: byte_at(card, 48),
+    }
+}
+
+// The settings in the bytes of a version 3 card, in range or not.
 fn settings_in(card: &[u8]) -> Settings {
     Settings {
         vmax: byte_at(card, 3),
@@ -225,6 +245,7 @@ fn settings_in(card: &[u8]) -> Settings {
         functions: byte_at(card, 39),
         x: word_at(card, 40),
         y: word_at(card, 42),
+        pairs: pairs_in(card),
     }
 }
 

@@ -8,15 +8,15 @@ use mathlib.Core.List.{List}
 use mathlib.Core.Logic.{_↔_, _⊎_, inl, inr, ⊎-elim}
 use lib.Dec.{eqb, lit≤}
 use lib.ListN.{length}
-use borrow.Author.Tests.{eqb-true, eqb-false}
+use borrow.Author.Tests.{eqb-true, eqb-false, ne-eqb}
 use Rattle.leaf.specs.Choosing.{pick}
 use Rattle.leaf.specs.Bytes.{byte, word}
 use Rattle.leaf.specs.Answers.{refusedAt}
 use Rattle.card.specs.Card.{baseKind, rowAt, reminds, Same}
 use Rattle.card.specs.Reading.{kept, functionsFrom, settingsFrom, settingsOf, readCard}
-use Rattle.card.specs.Plain.{Within, Setting, Vmax, Tick, Bts, Initial, Last, Drop, Functions, X, Y, OfCard, place, SettingMet, FirstOut, Known, HeaderMet, ReadAs, out-of-range}
+use Rattle.card.specs.Plain.{Within, OneOfFour, Setting, Vmax, Tick, Bts, Initial, Last, Drop, Functions, X, Y, PairSpeed, PairDistance, OfCard, place, SettingMet, FirstOut, Known, HeaderMet, ReadAs, out-of-range}
 use Rattle.card.proofs.Listed.{from-at}
-use Rattle.card.proofs.Area.{version-cases, card-version}
+use Rattle.card.proofs.Area.{one-or-later, card-version, speed-3, distance-3, speed-none, pairs-none}
 use Rattle.card.proofs.Exactly.{read-exactly}
 use Rattle.refused_card.specs.Refused.{lowEnd, rowHighEnd, tailHighEnd, highEnd, valueAt}
 use Rattle.refused_card.specs.Told.{IsBytes, Printed, LookedAt, RangeExact, RangeTold}
@@ -40,6 +40,9 @@ alike = (λ m. m, λ m. m, λ m. m .0)
 
 alike-only : {A B C D : Type 0} → (A → A) × (B → B) × (D → C → C × D)
 alike-only = (λ m. m, λ m. m, λ d m. (m, d))
+
+itself : {A : Type 0} → A ↔ A
+itself = (λ m. m, λ m. m)
 
 module _ (area : List ℕ) where
   abbrev Met : Setting → Type 0
@@ -79,9 +82,9 @@ module _ (area : List ℕ) where
   abbrev functions : ℕ
   functions = functionsFrom baseKind (byte area 2) area
 
-  functions-2 : byte area 2 ≡ 2 → functions ≡ byte area 39
+  functions-2 : 2 ≤ byte area 2 → functions ≡ byte area 39
   unfolding functionsFrom
-  functions-2 two = rw two
+  functions-2 later = rw (ne-eqb (byte area 2) 1 (λ one. omega arith))
 
   functions-1 : byte area 2 ≡ 1 → functions ≡ 0
   unfolding functionsFrom
@@ -89,7 +92,7 @@ module _ (area : List ℕ) where
 
   looked-on : Known (byte area 2) → functions / 4 % 2 ≡ 1 → LookedAt area X
   looked-on known on =
-      ⊎-elim (λ one. absurd (omega (arith, functions-1 one))) (λ two. (two, rw (functions-2 two) at on)) (version-cases known)
+      ⊎-elim (λ one. absurd (omega (arith, functions-1 one))) (λ later. (later, rw (functions-2 later) at on)) (one-or-later known)
 
   on-looked : LookedAt area X → functions / 4 % 2 ≡ 1
   on-looked looked = rw (functions-2 (looked .0)) (looked .1)
@@ -98,13 +101,21 @@ module _ (area : List ℕ) where
   unfolding lowEnd highEnd tailHighEnd valueAt settingsFrom
   functions-when known m =
       ⊎-elim (λ one. (λ _. functions-1 one, rw (functions-1 one) (lit≤ tt)))
-      (λ two. (λ one. absurd (omega arith), rw (functions-2 two) (m two .1))) (version-cases known)
+      (λ later. (λ one. absurd (omega arith), rw (functions-2 later) (m later .1))) (one-or-later known)
 
   functions-only : Only Functions
   unfolding lowEnd highEnd tailHighEnd valueAt settingsFrom
-  functions-only m two =
+  functions-only m later =
       let low : 0 ≤ byte area 39 = omega arith in
-      (low, rw (functions-2 two) at (m .1))
+      (low, rw (functions-2 later) at (m .1))
+
+  -- of a pair's speed what is printed is 02 g's "each one of those four"
+  abbrev SpeedPrinted : ℕ → Type 0
+  SpeedPrinted pair = PrintedAt (PairSpeed pair) ↔ OneOfFour (byte area (place baseKind (PairSpeed pair)))
+
+  speed-printed : (pair : ℕ) → pair < 4 → SpeedPrinted pair
+  unfolding valueAt
+  speed-printed pair of = from-at SpeedPrinted 0 4 (itself, (itself, (itself, (itself, tt)))) pair (omega arith) of
 
   met-when : Known (byte area 2) → (setting : Setting) → OfCard setting → When setting
   unfolding lowEnd highEnd tailHighEnd valueAt settingsFrom
@@ -117,6 +128,12 @@ module _ (area : List ℕ) where
   met-when known Functions of m = functions-when known m
   met-when known X of m = kept-when _ functions 2 6000 (word area 40) refl (λ on. m (looked-on known on))
   met-when known Y of m = kept-when _ functions 1 5000 (word area 42) refl (λ on. m (looked-on known on))
+  met-when known (PairSpeed pair) of m = (
+    λ three. rw (speed-3 baseKind (byte area 2) area three pair of) (speed-printed pair of .0 (m three)),
+    λ other. speed-none baseKind (byte area 2) area other pair of,
+  )
+  met-when known PairDistance of m =
+      (λ three. rw (distance-3 baseKind (byte area 2) area three) (m three), λ other. rw (pairs-none baseKind (byte area 2) area other))
 
   met-only : (setting : Setting) → OfCard setting → byte area (place baseKind setting) ≤ 255 → Only setting
   unfolding lowEnd highEnd tailHighEnd valueAt settingsFrom
@@ -129,6 +146,9 @@ module _ (area : List ℕ) where
   met-only Functions of small m looked = functions-only m looked
   met-only X of small m looked = kept-only _ functions 2 6000 (word area 40) refl (m .0) (on-looked looked)
   met-only Y of small m looked = kept-only _ functions 1 5000 (word area 42) refl (m .0) (on-looked looked)
+  met-only (PairSpeed pair) of small m three =
+      speed-printed pair of .1 (rw (speed-3 baseKind (byte area 2) area three pair of) at (m .0 three))
+  met-only PairDistance of small m three = rw (distance-3 baseKind (byte area 2) area three) at (m .0 three)
 
   -- "3 vmax 80..200 km/h, .."
   pub range-exact : RangeExact area
@@ -139,6 +159,10 @@ module _ (area : List ℕ) where
   by-bit known true e = inl (looked-on known (eqb-true _ _ e))
   by-bit known false e = inr (λ looked. eqb-false (functions / 4 % 2) 1 e (on-looked looked))
 
+  three-or-not : (t : Bool) → eqb (byte area 2) 3 ≡ t → (byte area 2 ≡ 3) ⊎ (byte area 2 ≡ 3 → ⊥)
+  three-or-not true e = inl (eqb-true _ _ e)
+  three-or-not false e = inr (eqb-false _ _ e)
+
   looked-or-not : Known (byte area 2) → (setting : Setting) → LookedAt area setting ⊎ (LookedAt area setting → ⊥)
   looked-or-not known Vmax = inl tt
   looked-or-not known Tick = inl tt
@@ -146,9 +170,11 @@ module _ (area : List ℕ) where
   looked-or-not known (Initial row) = inl tt
   looked-or-not known (Last row) = inl tt
   looked-or-not known (Drop row) = inl tt
-  looked-or-not known Functions = ⊎-elim (λ one. inr (λ two. omega arith)) (λ two. inl two) (version-cases known)
+  looked-or-not known Functions = ⊎-elim (λ one. inr (λ two. omega arith)) (λ later. inl later) (one-or-later known)
   looked-or-not known X = by-bit known (eqb (functions / 4 % 2) 1) refl
   looked-or-not known Y = by-bit known (eqb (functions / 4 % 2) 1) refl
+  looked-or-not known (PairSpeed pair) = three-or-not (eqb (byte area 2) 3) refl
+  looked-or-not known PairDistance = three-or-not (eqb (byte area 2) 3) refl
 
   -- what is out of range is looked at
   out-looked : Known (byte area 2) → (setting : Setting) → OfCard setting → (Met setting → ⊥) → LookedAt area setting
@@ -177,6 +203,8 @@ apart (Drop row) of = (λ e. omega arith, λ e. omega arith, λ e. omega arith)
 apart Functions of = (λ e. omega arith, λ e. omega arith, λ e. omega arith)
 apart X of = (λ e. omega arith, λ e. omega arith, λ e. omega arith)
 apart Y of = (λ e. omega arith, λ e. omega arith, λ e. omega arith)
+apart (PairSpeed pair) of = (λ e. omega arith, λ e. omega arith, λ e. omega arith)
+apart PairDistance of = (λ e. omega arith, λ e. omega arith, λ e. omega arith)
 
 -- so a word before a setting is before it whole
 whole-before : (p at : ℕ) → p < at → (at ≡ 5 → ⊥) × (at ≡ 41 → ⊥) × (at ≡ 43 → ⊥)
@@ -220,6 +248,8 @@ module _ (area other : List ℕ) (at : ℕ) (same : Same area other 0 at) where
   same-looked Functions before = rw (same 2 (omega arith) (omega arith)) (λ l. l, λ l. l)
   same-looked X before = rw (same 2 (omega arith) (omega arith), same 39 (omega arith) (omega arith)) (λ l. l, λ l. l)
   same-looked Y before = rw (same 2 (omega arith) (omega arith), same 39 (omega arith) (omega arith)) (λ l. l, λ l. l)
+  same-looked (PairSpeed pair) before = rw (same 2 (omega arith) (omega arith)) (λ l. l, λ l. l)
+  same-looked PairDistance before = rw (same 2 (omega arith) (omega arith)) (λ l. l, λ l. l)
 
   same-header : (highest : ℕ) → 3 ≤ at → length other ≡ length area → HeaderMet area highest → HeaderMet other highest
   same-header highest some long m =

@@ -12,8 +12,8 @@ use Rattle.card.specs.Card.{lengthOf}
 use Rattle.text.specs.Decimal.{counted}
 use Rattle.text.specs.Words.{ascii}
 use Rattle.text.proofs.Lengths.{decimal-length, word-length, pick-length}
-use Rattle.refused_card.specs.Names.{rowName, rowSetting, settingName}
-use Rattle.refused_card.specs.Refused.{reasonText, bytesDue, bytesFound, versionFound, lengthFound, foundText, isText, hintText, refusedText, lowEnd, highEnd, valueAt, isAbove, isBelow, missedText, rangeText, faultText, whyText}
+use Rattle.refused_card.specs.Names.{rowName, rowSetting, behindRows, settingName}
+use Rattle.refused_card.specs.Refused.{reasonText, bytesDue, bytesFound, versionFound, lengthFound, foundText, isText, hintText, refusedText, lowEnd, highEnd, valueAt, isAbove, isBelow, missedText, isSpeed, dueText, rangeText, faultText, whyText}
 
 pub row-name-length : (k : ℕ) → length (rowName k) ≤ 104
 row-name-length k = word-length (ascii "conditional clear|stop announcement|preannouncement|caution|before-stop|unprotected crossing|limit|start") k
@@ -29,11 +29,11 @@ unfolding settingName
 setting-name-length place =
     pick-length (ltb place 7) _ _ 140 (omega (arith, word-length (ascii "length||version|vmax|tick length, in tenths of a millimetre||BTS speed") place))
     (pick-length (ltb place 39) _ _ 140 (row-setting-length (place - 7))
-    (omega (arith, word-length (ascii "functions|reminder X||reminder Y") (place - 39))))
+    (omega (arith, word-length behindRows (place - 39))))
 
 reason-length : (number : ℕ) → length (reasonText number) ≤ 220
 reason-length number =
-    let h = word-length (ascii "|card area under 3 bytes, or shorter than its record|card version 0|card version above the reader's highest|length field is not its version's length|setting out of range|reader's highest version not 1 or 2") number in
+    let h = word-length (ascii "|card area under 3 bytes, or shorter than its record|card version 0|card version above the reader's highest|length field is not its version's length|setting out of range|reader's highest version not 1, 2 or 3") number in
     omega arith
 
 found-length : (area : List ℕ) (highest number : ℕ) → length (foundText area highest number) ≤ 50
@@ -58,11 +58,17 @@ unfolding missedText
 missed-length area place =
     pick-length (isAbove area place) _ _ 20 (omega arith) (pick-length (isBelow area place) _ _ 20 (omega arith) (omega arith))
 
-range-length : (area : List ℕ) (place : ℕ) → length (rangeText area place) ≤ 80
+due-length : (area : List ℕ) (place : ℕ) → length (dueText area place) ≤ 80
+unfolding dueText
+due-length area place =
+    pick-length (isSpeed place) _ _ 80
+    (simp length-append (omega (arith, decimal-length 30, decimal-length 40, decimal-length 50, decimal-length 70)))
+    (simp length-append (omega (arith, decimal-length (lowEnd place), decimal-length (highEnd area place))))
+
+range-length : (area : List ℕ) (place : ℕ) → length (rangeText area place) ≤ 120
 unfolding rangeText
 range-length area place =
-    simp length-append
-    (omega (arith, decimal-length (valueAt area place), decimal-length (lowEnd place), decimal-length (highEnd area place), missed-length area place))
+    simp length-append (omega (arith, decimal-length (valueAt area place), due-length area place, missed-length area place))
 
 fault-length : (area : List ℕ) (number place : ℕ) → length (faultText area number place) ≤ 300
 unfolding faultText

@@ -9,7 +9,7 @@ use mathlib.Core.List.{List, [], _∷_}
 use mathlib.Core.Logic.{_⊎_, inl, inr}
 use lib.Dec.{leb, ltb, eqb}
 use lib.ListN.{length}
-use borrow.Author.Tests.{eqb-true, ne-eqb, lt-ltb, le-ltb, leb-true, ltb-true, ltb-false}
+use borrow.Author.Tests.{eqb-true, ne-eqb, lt-leb, lt-ltb, le-ltb, leb-true, ltb-true, ltb-false}
 use Rattle.leaf.specs.Choosing.{and-split}
 use Rattle.leaf.specs.Numbers.{within}
 use Rattle.leaf.specs.Bytes.{byte, word}
@@ -43,7 +43,7 @@ module _ (area : List ℕ) (at : ℕ) (final : isFinal at ≡ true) where
       let low = leb-true 7 at (ends .0) in
       let high = leb-true at 38 (ends .1) in
       let field = eqb-true ((at - 7) % 4) 1 (split .1) in
-      simp (ne-eqb at 3 (λ e. omega arith), ne-eqb at 4 (λ e. omega arith), ne-eqb at 39 (λ e. omega arith), ne-eqb at 40 (λ e. omega arith), ne-eqb at 42 (λ e. omega arith), le-ltb at 7 low, lt-ltb at 39 (omega arith), field) at out
+      simp (ne-eqb at 3 (λ e. omega arith), ne-eqb at 4 (λ e. omega arith), ne-eqb at 39 (λ e. omega arith), ne-eqb at 40 (λ e. omega arith), ne-eqb at 42 (λ e. omega arith), lt-leb 44 at (omega arith), le-ltb at 7 low, lt-ltb at 39 (omega arith), field) at out
 
   missed : (Within 1 (byte area (at - 1)) (byte area at) → ⊥) → Above area at ⊎ Below area at
   unfolding isAbove isBelow missedText
@@ -91,14 +91,14 @@ module _ (area : List ℕ) (highest : ℕ) where
 
 -- ---- a file of text
 
-character-high : (b : ℕ) → isCharacter b ≡ true → 2 < b
+character-high : (b : ℕ) → isCharacter b ≡ true → 3 < b
 character-high b e = cases (within 0x20 0x7E b) refl e
   where
-    cases : (t : Bool) → within 0x20 0x7E b ≡ t → (t || within 0x09 0x0D b) ≡ true → 2 < b
+    cases : (t : Bool) → within 0x20 0x7E b ≡ t → (t || within 0x09 0x0D b) ≡ true → 3 < b
     cases true h e = omega (arith, leb-true 0x20 b (and-split _ _ h .0))
     cases false h e = omega (arith, leb-true 0x09 b (and-split _ _ e .0))
 
-text-version : (area : List ℕ) → 3 ≤ length area → isText area ≡ true → 2 < byte area 2
+text-version : (area : List ℕ) → 3 ≤ length area → isText area ≡ true → 3 < byte area 2
 unfolding isText byte
 text-version [] some e = absurd (omega arith)
 text-version (a ∷ []) some e = absurd (omega arith)

@@ -10,18 +10,18 @@ use Rattle.leaf.specs.Bytes.{byte, word}
 use Rattle.leaf.specs.declared.Refusal.{Refusal}
 use Rattle.leaf.specs.declared.Refusal.the-variants.{Number, At}
 use Rattle.card.specs.Card.{lengthOf}
-use Rattle.text.specs.Decimal.{counted}
+use Rattle.text.specs.Decimal.{counted, decimal}
 use Rattle.text.specs.Words.{ascii, wordOf, labelled, refusedBy, refusedAtPlace}
 use Rattle.refused_card.specs.Names.{settingName}
 
 -- ---- a refusal by its number
 
--- the table of refusal numbers, 1 to 6
+-- the table of refusal numbers, 1 to 6; 02 g: "2 and 6 now allow 3"
 abbrev pub reasonText : ℕ → List ℕ
 reasonText number =
     wordOf
     (ascii "|card area under 3 bytes, or shorter than its record|card version 0|card version above the reader's highest"
-    ++ ascii "|length field is not its version's length|setting out of range|reader's highest version not 1 or 2")
+    ++ ascii "|length field is not its version's length|setting out of range|reader's highest version not 1, 2 or 3")
     number
 
 -- "1 | card area under 3 bytes, or shorter than its record": how many bytes are due
@@ -63,8 +63,8 @@ refusedText area highest number =
 -- ---- "5 | setting out of range, with place of the first"
 
 -- "3 vmax 80..200 km/h, 4–5 tick length 10..1000 tenths of a millimetre, 6 BTS speed 1..200"; "initial 1..200, final 1..initial, delay any,
--- drop ≥ 1"; "39 functions (0..15), 40–41 reminder X 2..6000 samples, 42–43 reminder Y 1..5000 m": the lower end of the range of the
--- setting that begins at a place
+-- drop ≥ 1"; "39 functions (0..15), 40–41 reminder X 2..6000 samples, 42–43 reminder Y 1..5000 m"; 02 g: "byte 48, the pair distance
+-- 1..50 m": the lower end of the range of the setting that begins at a place
 unfoldable pub lowEnd : ℕ → ℕ
 lowEnd place = pick (eqb place 3) 80 (pick (eqb place 4) 10 (pick (eqb place 39) 0 (pick (eqb place 40) 2 1)))
 
@@ -73,7 +73,7 @@ unfoldable pub rowHighEnd : List ℕ → ℕ → ℕ
 rowHighEnd area place = pick (eqb ((place - 7) % 4) 0) 200 (pick (eqb ((place - 7) % 4) 1) (byte area (place - 1)) 255)
 
 unfoldable pub tailHighEnd : ℕ → ℕ
-tailHighEnd place = pick (eqb place 39) 15 (pick (eqb place 40) 6000 5000)
+tailHighEnd place = pick (eqb place 39) 15 (pick (eqb place 40) 6000 (pick (eqb place 48) 50 5000))
 
 unfoldable pub highEnd : List ℕ → ℕ → ℕ
 highEnd area place = pick (ltb place 7) (pick (eqb place 4) 1000 200) (pick (ltb place 39) (rowHighEnd area place) (tailHighEnd place))
@@ -96,10 +96,28 @@ isBelow area place = isFinal place && ltb (byte area place) 1
 unfoldable pub missedText : List ℕ → ℕ → List ℕ
 missedText area place = pick (isAbove area place) (ascii ": above its initial") (pick (isBelow area place) (ascii ": below 1") [])
 
+-- 02 g: "bytes 44–47, the speeds for pairs 10-10, 10-11, 11-10, 11-11": the place of one
+abbrev pub isSpeed : ℕ → Bool
+isSpeed place = within 44 47 place
+
+-- "30, 40, 50 or 70 km/h"
+abbrev pub pairSpeeds : List ℕ
+pairSpeeds = 30 ∷ 40 ∷ 50 ∷ 70 ∷ []
+
+-- numbers, a comma between any two
+abbrev pub commaText : List ℕ → List ℕ
+commaText [] = []
+commaText (n ∷ []) = decimal n
+commaText (n ∷ m ∷ rest) = decimal n ++ ascii ", " ++ commaText (m ∷ rest)
+
+-- what should be there: "each one of those four", or both ends of the range
+unfoldable pub dueText : List ℕ → ℕ → List ℕ
+dueText area place =
+    pick (isSpeed place) (ascii ", must be one of " ++ commaText pairSpeeds)
+    (labelled (ascii ", must be ") (lowEnd place) ++ labelled (ascii "..") (highEnd area place))
+
 unfoldable pub rangeText : List ℕ → ℕ → List ℕ
-rangeText area place =
-    labelled (ascii ": is ") (valueAt area place) ++ labelled (ascii ", must be ") (lowEnd place) ++ labelled (ascii "..") (highEnd area place)
-    ++ missedText area place
+rangeText area place = labelled (ascii ": is ") (valueAt area place) ++ dueText area place ++ missedText area place
 
 unfoldable pub faultText : List ℕ → ℕ → ℕ → List ℕ
 faultText area number place = refusedAtPlace number place ++ ascii ": " ++ settingName place ++ rangeText area place ++ ascii "\n"

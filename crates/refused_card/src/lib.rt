@@ -19,7 +19,7 @@ ghost use Rattle.card.specs.Card.{lengthOf};
 ghost use Rattle.text.specs.Typing.{typed};
 ghost use Rattle.refused_card.specs.Names.{rowName, rowSetting, settingName};
 ghost use Rattle.refused_card.specs.Refused.{reasonText, bytesDue, bytesFound, versionFound, lengthFound, foundText, isCharacter, isText, hintText, refusedText};
-ghost use Rattle.refused_card.specs.Refused.{lowEnd, rowHighEnd, tailHighEnd, highEnd, valueAt, isFinal, isAbove, isBelow, missedText, rangeText, faultText, whyText};
+ghost use Rattle.refused_card.specs.Refused.{lowEnd, rowHighEnd, tailHighEnd, highEnd, valueAt, isFinal, isAbove, isBelow, missedText, dueText, rangeText, faultText, whyText};
 
 // ---- names
 
@@ -61,21 +61,21 @@ fn put_setting_name(out: &mut [u8], at: usize, place: u32) -> usize
     put_word(
         out,
         at,
-        b"functions|reminder X||reminder Y",
+        b"functions|reminder X||reminder Y||pair 10-10 speed|pair 10-11 speed|pair 11-10 speed|pair 11-11 speed|pair distance",
         less(place, 39),
     )
 }
 
 // ---- a refusal by its number
 
-// Document 01's words for it.
+// Document 01's words for it, as document 02 changed them.
 fn put_reason(out: &mut [u8], at: usize, number: u8) -> usize
     ensures { λ r. ⌜ (now (out .exit), r) ≡ typed (reasonText number) (now (out .entry), at) ⌝ }
 {
     put_word(
         out,
         at,
-        b"|card area under 3 bytes, or shorter than its record|card version 0|card version above the reader's highest|length field is not its version's length|setting out of range|reader's highest version not 1 or 2",
+        b"|card area under 3 bytes, or shorter than its record|card version 0|card version above the reader's highest|length field is not its version's length|setting out of range|reader's highest version not 1, 2 or 3",
         number as u32,
     )
 }
@@ -84,11 +84,12 @@ fn put_reason(out: &mut [u8], at: usize, number: u8) -> usize
 fn length_of(version: u8) -> u32
     ensures { λ r. ⌜ r ≡ lengthOf version ⌝ }
 {
-    choose32(
-        version == 1,
-        Settings::LENGTH_1 as u32,
+    let later = choose32(
+        version == 2,
         Settings::LENGTH_2 as u32,
-    )
+        Settings::LENGTH_3 as u32,
+    );
+    choose32(version == 1, Settings::LENGTH_1 as u32, later)
 }
 
 // How many bytes the area should have.
@@ -210,7 +211,8 @@ fn row_high_end(area: &[u8], place: u32) -> u32
 fn tail_high_end(place: u32) -> u32
     ensures { λ r. ⌜ r ≡ tailHighEnd place ⌝ }
 {
-    let reminder = choose32(place == 40, 6000, 5000);
+    let distance = choose32(place == 48, 50, 5000);
+    let reminder = choose32(place == 40, 6000, distance);
     choose32(place == 39, 15, reminder)
 }
 
@@ -274,12 +276,23 @@ fn put_missed(out: &mut [u8], at: usize, area: &[u8], place: u32) -> usize
     at
 }
 
+// What should be there: of a pair's speed one of four, else the ends of the range.
+fn put_due(out: &mut [u8], at: usize, area: &[u8], place: u32) -> usize
+    ensures { λ r. ⌜ (now (out .exit), r) ≡ typed (dueText (now (area .entry)) place) (now (out .entry), at) ⌝ }
+{
+    let speed = (44 <= place) & (place <= 47);
+    if speed {
+        return put_text(out, at, b", must be one of 30, 40, 50, 70");
+    }
+    let at = put_labelled(out, at, b", must be ", low_end(place));
+    put_labelled(out, at, b"..", high_end(area, place))
+}
+
 fn put_range(out: &mut [u8], at: usize, area: &[u8], place: u32) -> usize
     ensures { λ r. ⌜ (now (out .exit), r) ≡ typed (rangeText (now (area .entry)) place) (now (out .entry), at) ⌝ }
 {
     let at = put_labelled(out, at, b": is ", value_at(area, place));
-    let at = put_labelled(out, at, b", must be ", low_end(place));
-    let at = put_labelled(out, at, b"..", high_end(area, place));
+    let at = put_due(out, at, area, place);
     put_missed(out, at, area, place)
 }
 

@@ -3,13 +3,14 @@ use Prim.Native.Nat.{ℕ, _+_, _-_, _*_, _≤_}
 use native.Mathlib.Omega.{arith}
 use mathlib.Core.Bool.{Bool, false}
 use mathlib.Core.List.{List, [], _∷_, _++_}
-use lib.Dec.{leb, ltb}
+use lib.Dec.{leb, ltb, eqb}
 use lib.ListN.{length, take, drop, length-append, length-take}
 use Rattle.leaf.specs.Choosing.{pick}
 use Rattle.leaf.specs.Bytes.{byte, word}
 use Rattle.leaf.specs.Answers.{Answer, given, refused, refusedAt}
 use Rattle.leaf.specs.declared.Refusal.the-variants.{Number, At}
 use Rattle.card.specs.declared.Row.{Row}
+use Rattle.card.specs.declared.Pairs.{Pairs}
 use Rattle.card.specs.declared.Settings.{Settings}
 use Rattle.card.specs.Card.{protects, zones, reminds, readsInBts}
 use Rattle.card.specs.Reading.{readCard}
@@ -17,7 +18,7 @@ use Rattle.text.specs.Decimal.{MOST, counted, decimal}
 use Rattle.text.specs.Words.{ascii}
 use Rattle.text.proofs.Lengths.{decimal-length, tenths-length, hundredths-length, hex-length, word-length, pick-length}
 use Rattle.refused_card.proofs.Room.{row-name-length, why-length}
-use Rattle.shown_card.specs.Shown.{HIGHEST, fallText, rowText, rowsText, functionNames, functionLine, reminderLine, functionsText, headText, settingsText}
+use Rattle.shown_card.specs.Shown.{HIGHEST, fallText, rowText, rowsText, functionNames, functionLine, reminderLine, functionsText, headText, pairNames, pairText, allPairsText, pairsText, settingsText}
 use Rattle.shown_card.specs.Shown.{hexBytes, hexLine, hexLines, manyText, moreText, behindText, cardText, shownCard}
 
 row-length : (k : ℕ) (row : Row) → length (rowText k row) ≤ 240
@@ -65,7 +66,26 @@ functions-length functions x y =
       function-length 3 (readsInBts functions),
     ))
 
-settings-length : (version : ℕ) (s : Settings) → length (settingsText version s) ≤ 2600
+pair-length : (k speed : ℕ) → length (pairText k speed) ≤ 80
+unfolding pairText
+pair-length k speed = simp length-append (omega (arith, word-length pairNames k, decimal-length speed))
+
+pairs-length : (version : ℕ) (pairs : Pairs) → length (pairsText version pairs) ≤ 360
+unfolding pairsText allPairsText
+pairs-length version pairs =
+    pick-length (eqb version 3) _ [] 360
+    (simp length-append
+    (omega (
+      arith,
+      pair-length 0 (pairs .«ten_ten»),
+      pair-length 1 (pairs .«ten_eleven»),
+      pair-length 2 (pairs .«eleven_ten»),
+      pair-length 3 (pairs .«eleven_eleven»),
+      decimal-length (pairs .distance),
+    )))
+    (omega arith)
+
+settings-length : (version : ℕ) (s : Settings) → length (settingsText version s) ≤ 3000
 unfolding settingsText headText
 settings-length version s =
     simp length-append
@@ -77,6 +97,7 @@ settings-length version s =
       decimal-length (s .bts),
       rows-length s,
       functions-length (s .functions) (s .x) (s .y),
+      pairs-length version (s .pairs),
     ))
 
 hex-bytes-length : (bytes : List ℕ) → length (hexBytes bytes) ≤ 3 * length bytes

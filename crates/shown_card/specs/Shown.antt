@@ -2,13 +2,14 @@
 use Prim.Native.Nat.{ℕ, _+_, _-_}
 use mathlib.Core.Bool.{Bool, false}
 use mathlib.Core.List.{List, [], _∷_, _++_}
-use lib.Dec.{leb, ltb}
+use lib.Dec.{leb, ltb, eqb}
 use lib.ListN.{length, take, drop}
 use Rattle.leaf.specs.Choosing.{pick}
 use Rattle.leaf.specs.Bytes.{byte, word}
 use Rattle.leaf.specs.Answers.{Answer, given, refused, refusedAt}
 use Rattle.leaf.specs.declared.Refusal.the-variants.{Number, At}
 use Rattle.card.specs.declared.Row.{Row}
+use Rattle.card.specs.declared.Pairs.{Pairs}
 use Rattle.card.specs.declared.Settings.{Settings}
 use Rattle.card.specs.Card.{protects, zones, reminds, readsInBts}
 use Rattle.card.specs.Reading.{readCard}
@@ -18,9 +19,9 @@ use Rattle.text.specs.Words.{ascii, wordOf, labelled}
 use Rattle.refused_card.specs.Names.{rowName}
 use Rattle.refused_card.specs.Refused.{whyText}
 
--- the highest version that the program knows
+-- the highest version that the program knows: 02 g's
 abbrev pub HIGHEST : ℕ
-HIGHEST = 2
+HIGHEST = 3
 
 -- ---- the settings
 
@@ -61,8 +62,25 @@ headText version vmax tick bts =
     labelled (ascii "card version ") version ++ labelled (ascii "\nvmax ") vmax ++ ascii " km/h\ntick " ++ tenths tick
     ++ labelled (ascii " mm\nBTS speed ") bts ++ ascii " km/h\n"
 
+-- 02 g: "the speeds for pairs 10-10, 10-11, 11-10, 11-11", a line each, "and byte 48, the pair distance"
+abbrev pub pairNames : List ℕ
+pairNames = ascii "pair 10-10: |pair 10-11: |pair 11-10: |pair 11-11: "
+
+unfoldable pub pairText : ℕ → ℕ → List ℕ
+pairText k speed = wordOf pairNames k ++ decimal speed ++ ascii " km/h\n"
+
+unfoldable pub allPairsText : Pairs → List ℕ
+allPairsText pairs =
+    pairText 0 (pairs .«ten_ten») ++ pairText 1 (pairs .«ten_eleven») ++ pairText 2 (pairs .«eleven_ten»)
+    ++ pairText 3 (pairs .«eleven_eleven») ++ labelled (ascii "pair distance: ") (pairs .distance) ++ ascii " m\n"
+
+-- "Card version 3 is version 2 with" them: of other cards nothing is said
+unfoldable pub pairsText : ℕ → Pairs → List ℕ
+pairsText version pairs = pick (eqb version 3) (allPairsText pairs) []
+
 unfoldable pub settingsText : ℕ → Settings → List ℕ
-settingsText version s = headText version (s .vmax) (s .tick) (s .bts) ++ rowsText s ++ functionsText (s .functions) (s .x) (s .y)
+settingsText version s =
+    headText version (s .vmax) (s .tick) (s .bts) ++ rowsText s ++ functionsText (s .functions) (s .x) (s .y) ++ pairsText version (s .pairs)
 
 -- ---- what lies behind the record
 

@@ -2,6 +2,7 @@
 // the record; or why the card is refused. It is one text, typed into a lent buffer.
 //
 // Each function types from the place `at` on, as those of `text` do. There is no public `requires`.
+use card::Pairs;
 use card::Reading;
 use card::Row;
 use card::Settings;
@@ -28,11 +29,11 @@ ghost use Prim.Native.Nat.{_≤_};
 ghost use lib.ListN.{length, take, drop};
 ghost use Rattle.leaf.specs.Answers.{given};
 ghost use Rattle.text.specs.Typing.{typed, Held};
-ghost use Rattle.shown_card.specs.Shown.{fallText, rowText, rowsText, functionLine, reminderLine, functionsText, headText, settingsText};
+ghost use Rattle.shown_card.specs.Shown.{fallText, rowText, rowsText, functionLine, reminderLine, functionsText, headText, pairText, allPairsText, pairsText, settingsText};
 ghost use Rattle.shown_card.specs.Shown.{hexBytes, hexLine, hexLines, manyText, moreText, behindText, cardText, shownCard};
 
 // The highest version that the program knows.
-const HIGHEST: u8 = 2;
+const HIGHEST: u8 = 3;
 
 const BLANK: u8 = b' ';
 
@@ -119,12 +120,48 @@ fn put_head(out: &mut [u8], at: usize, version: u8, vmax: u8, tick: u16, bts: u8
     put_text(out, at, b" km/h\n")
 }
 
+// A pair by its number, 0 to 3: its speed.
+fn put_pair(out: &mut [u8], at: usize, k: u32, speed: u8) -> usize
+    ensures { λ r. ⌜ (now (out .exit), r) ≡ typed (pairText k speed) (now (out .entry), at) ⌝ }
+{
+    let at = put_word(
+        out,
+        at,
+        b"pair 10-10: |pair 10-11: |pair 11-10: |pair 11-11: ",
+        k,
+    );
+    let at = put_number(out, at, speed as u32);
+    put_text(out, at, b" km/h\n")
+}
+
+fn put_all_pairs(out: &mut [u8], at: usize, pairs: Pairs) -> usize
+    ensures { λ r. ⌜ (now (out .exit), r) ≡ typed (allPairsText pairs) (now (out .entry), at) ⌝ }
+{
+    let at = put_pair(out, at, 0, pairs.ten_ten);
+    let at = put_pair(out, at, 1, pairs.ten_eleven);
+    let at = put_pair(out, at, 2, pairs.eleven_ten);
+    let at = put_pair(out, at, 3, pairs.eleven_eleven);
+    let at = put_labelled(out, at, b"pair distance: ", pairs.distance as u32);
+    put_text(out, at, b" m\n")
+}
+
+// Cards of other versions have no pairs, and nothing is said of them.
+fn put_pairs(out: &mut [u8], at: usize, version: u8, pairs: Pairs) -> usize
+    ensures { λ r. ⌜ (now (out .exit), r) ≡ typed (pairsText version pairs) (now (out .entry), at) ⌝ }
+{
+    if version == 3 {
+        return put_all_pairs(out, at, pairs);
+    }
+    at
+}
+
 fn put_settings(out: &mut [u8], at: usize, version: u8, s: Settings) -> usize
     ensures { λ r. ⌜ (now (out .exit), r) ≡ typed (settingsText version s) (now (out .entry), at) ⌝ }
 {
     let at = put_head(out, at, version, s.vmax, s.tick, s.bts);
     let at = put_rows(out, at, s);
-    put_functions(out, at, s.functions, s.x, s.y)
+    let at = put_functions(out, at, s.functions, s.x, s.y);
+    put_pairs(out, at, version, s.pairs)
 }
 
 // ---- what lies behind the record

@@ -7,15 +7,13 @@ use Rattle.refused_card.specs.Refused.{rangeText}
 returns : tie.Need-returns
 unfolding rangeText
 returns c =
-    let four = c .before .before in
-    let three = four .before .before .before .before in
-    let two = three .before .before .before .before .before .before in
-    let one = two .before .before .before .before .before .before in
-    then-typed _ _ _ (then-typed _ _ _ (then-typed _ _ _ (rw (one .before .value-at .ensures) at (one .put-labelled .ensures)) (rw (two .before .low-end .ensures) at (two .put-labelled2 .ensures))) (rw (three .before .high-end .ensures) at (three .put-labelled3 .ensures))) (four .put-missed .ensures)
+    let three = c .before .before in
+    let two = three .before .before .before .before in
+    let one = two .before .before .before .before in
+    then-typed _ _ _ (then-typed _ _ _ (rw (one .before .value-at .ensures) at (one .put-labelled .ensures)) (two .put-due .ensures)) (three .put-missed .ensures)
 
 pub put-range-spec : {M : Type 1} → statement M
 put-range-spec =
     tie.close
-    (tie.spec (λ c. search needs) (λ c κs. search needs) (λ c κs. search needs) (λ c. search needs) (λ c κs. search needs)
-    (λ c κs. search needs) (λ c. search needs) (λ c κs. search needs) (λ c κs. search needs) (λ c κs. search needs)
+    (tie.spec (λ c. search needs) (λ c κs. search needs) (λ c κs. search needs) (λ c κs. search needs) (λ c κs. search needs)
     (λ c. search needs) returns)
