@@ -1,2 +1,4 @@
 pub mod Crossing
 pub mod Limit
+pub mod Pairs
+pub mod Laws

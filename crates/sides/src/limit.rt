@@ -6,10 +6,12 @@ ghost use Rattle.sides.specs.Limit.{noLimit, limitOlder, limitSet, steps
 // Steps stop here.
 pub const STEPS_TOP: u8 = 8;
 
+// `answered` says that an answered 1 or 9 set it last.
 pub struct Limit {
     pub on: bool,
     pub age: u16,
     pub steps: u8,
+    pub answered: bool,
 }
 
 // The most that steps reach: min(T, 160), in hundredths of km/h.
@@ -52,6 +54,7 @@ impl Limit {
             on: false,
             age: 0,
             steps: 0,
+            answered: false,
         }
     }
 
@@ -62,14 +65,15 @@ impl Limit {
         self
     }
 
-    // The limit is set by a reading of this age; a repeat keeps the standing limit's.
-    pub fn set(self, age: u16) -> Limit
-        ensures { λ r. ⌜ r ≡ limitSet age self ⌝ }
+    // The limit is set by a reading of this age, as it is read or by its answer; a repeat keeps the standing limit's.
+    pub fn set(self, age: u16, answered: bool) -> Limit
+        ensures { λ r. ⌜ r ≡ limitSet answered age self ⌝ }
     {
         Limit {
             on: true,
             age: leaf::choose16(self.on, self.age, age),
             steps: 0,
+            answered: answered,
         }
     }
 
@@ -81,12 +85,15 @@ impl Limit {
         leaf::choose32(falling, row, stepped_final(last, self.steps, top))
     }
 
-    // Does a press of increase, for which stop has no use, add a step.
-    pub fn may_step(self, row: u32, last: u8, top: u32) -> bool
-        ensures { λ r. ⌜ r ≡ mayStep row last top self ⌝ }
+    // Does a press of increase, for which stop has no use, add a step; `pairs` says that the card has pairs.
+    pub fn may_step(self, pairs: bool, row: u32, last: u8, top: u32) -> bool
+        ensures { λ r. ⌜ r ≡ mayStep pairs row last top self ⌝ }
     {
         let at_final = row <= leaf::hundredths(last);
-        self.on & at_final & (stepped_final(last, self.steps, top) < step_top(top))
+        (!pairs | self.answered)
+            & self.on
+            & at_final
+            & (stepped_final(last, self.steps, top) < step_top(top))
     }
 
     pub fn step(mut self) -> Limit
@@ -101,6 +108,13 @@ impl Limit {
     {
         self.steps = one_less(self.steps);
         self
+    }
+
+    // Its final value with its steps, hundredths of km/h.
+    pub fn final_value(self, last: u8, top: u32) -> u32
+        ensures { λ r. ⌜ r ≡ steppedFinal last (self .steps) top ⌝ }
+    {
+        stepped_final(last, self.steps, top)
     }
 
     // May button 6 take it off, at m mm/s.
