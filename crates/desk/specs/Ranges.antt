@@ -12,6 +12,8 @@ use Rattle.signals.specs.declared.stop.Reminder.{Reminder}
 use Rattle.sides.specs.declared.crossing.Crossing.{Crossing}
 use Rattle.sides.specs.declared.crossing.CrossingOption.{CrossingOption}
 use Rattle.sides.specs.declared.limit.Limit.{Limit}
+use Rattle.sides.specs.declared.pairs.FourLimits.{FourLimits}
+use Rattle.sides.specs.declared.pairs.Paired.{Paired}
 use Rattle.sides.specs.Limit.{stepsTop}
 use Rattle.desk.specs.declared.brake.Brake.{Brake}
 use Rattle.desk.specs.declared.beside.Beside.{Beside}
@@ -49,8 +51,15 @@ crossingInside c = leb (c .age) ageTop && leb (c .distance) distanceTop
 abbrev pub limitInside : Limit → Bool
 limitInside l = leb (l .age) ageTop && leb (l .steps) stepsTop
 
+-- 02 g: "Ranges: paired ages, the first's distance." (g29)
+abbrev pub fourInside : FourLimits → Bool
+fourInside p = leb (p .thirty .age) ageTop && leb (p .forty .age) ageTop && leb (p .fifty .age) ageTop && leb (p .seventy .age) ageTop
+
+abbrev pub pairedInside : Paired → Bool
+pairedInside p = leb (p .first .distance) distanceTop && fourInside (p .limits)
+
 unfoldable pub besideInside : Beside → Bool
-besideInside b = alongsideInside (b .alongside) && crossingInside (b .crossing) && limitInside (b .limit)
+besideInside b = alongsideInside (b .alongside) && crossingInside (b .crossing) && limitInside (b .limit) && pairedInside (b .paired)
 
 -- ---- the desk
 

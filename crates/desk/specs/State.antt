@@ -16,13 +16,14 @@ use Rattle.signals.specs.Stop.{alongsideAfter, disarmed, freshAs}
 use Rattle.sides.specs.declared.crossing.Crossing.{Crossing}
 use Rattle.sides.specs.declared.crossing.CrossingOption.{CrossingOption}
 use Rattle.sides.specs.declared.limit.Limit.{Limit}
+use Rattle.sides.specs.declared.pairs.Paired.{Paired}
 use Rattle.sides.specs.Crossing.{noOption, unprotectedSet}
 use Rattle.sides.specs.Limit.{limitSet}
 use Rattle.desk.specs.declared.brake.Brake.{Brake}
 use Rattle.desk.specs.declared.beside.Beside.{Beside}
 use Rattle.desk.specs.declared.state.Desk.{Desk}
 use Rattle.desk.specs.Brake.{openingBrake}
-use Rattle.desk.specs.Beside.{nothingBeside, besideWithAlongside, besideWithCrossing, besideWithLimit}
+use Rattle.desk.specs.Beside.{nothingBeside, besideWithAlongside, besideWithCrossing, besideWithLimit, besideWithPaired}
 
 -- ---- a desk with one member changed
 
@@ -67,6 +68,9 @@ withCrossing crossing d = withBeside (besideWithCrossing crossing (d .beside)) d
 abbrev pub withLimit : Limit → Desk → Desk
 withLimit limit d = withBeside (besideWithLimit limit (d .beside)) d
 
+abbrev pub withPaired : Paired → Desk → Desk
+withPaired paired d = withBeside (besideWithPaired paired (d .beside)) d
+
 -- ---- main controls
 
 -- "Each new main control replaces the old and starts afresh." "When another main control except stop takes over, the stop limit stays
@@ -80,9 +84,9 @@ takenOver kind age distance d =
 unfoldable pub crossingSet : ℕ → ℕ → Desk → Desk
 crossingSet age distance d = withCrossing (unprotectedSet age distance (d .beside .crossing)) d
 
--- the limit, set by a reading of this age
-unfoldable pub limitNow : ℕ → Desk → Desk
-limitNow age d = withLimit (limitSet age (d .beside .limit)) d
+-- the limit, set by a reading of this age, as it is read or by its answer
+unfoldable pub limitNow : Bool → ℕ → Desk → Desk
+limitNow answered age d = withLimit (limitSet answered age (d .beside .limit)) d
 
 -- ---- opening, and the mode
 
@@ -108,6 +112,6 @@ restingOf true = mainOf Clear 0 0
 restingOf false = mainOf Start 0 0
 
 -- "BTS: entering drops all controls, windows and armed override; leaving drops them and sets start." The last code and the brake stay;
--- 02: "a mode change leaves the count alone" (b4).
+-- 02: "a mode change leaves the count alone" (b4), and "a mode change parts them", the two of a pair; it "drops paired limits too" (g28).
 unfoldable pub modeChanged : Bool → Desk → Desk
 modeChanged bts d = withMain (restingOf bts) (withBrake (d .brake) (withCode (d .code) (withBts bts freshDesk)))

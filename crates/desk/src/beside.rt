@@ -1,13 +1,16 @@
-// What stands beside the main control, a part of the desk: the stop alongside, the crossing, the limit.
+// What stands beside the main control, a part of the desk: the stop alongside, the crossing, the limit, and limit
+// beacons in pairs.
 use sides::crossing::Crossing;
 use sides::limit::Limit;
+use sides::pairs::Paired;
 use signals::stop::Alongside;
 ghost use mathlib.Core.Path.{_≡_};
-ghost use Rattle.desk.specs.Beside.{nothingBeside, besideWithAlongside, besideWithCrossing, besideWithLimit, besideOlder};
+ghost use Rattle.desk.specs.Beside.{nothingBeside, besideWithAlongside, besideWithCrossing, besideWithLimit, besideWithPaired, besideOlder};
 
-// The crossing comes first in memory, where a sample costs least (tests/cost).
+// The order in memory is that at which a sample costs least (tests/cost).
 pub struct Beside {
     pub crossing: Crossing,
+    pub paired: Paired,
     pub alongside: Alongside,
     pub limit: Limit,
 }
@@ -20,6 +23,7 @@ impl Beside {
             alongside: Alongside::none(),
             crossing: Crossing::none(),
             limit: Limit::none(),
+            paired: Paired::nothing(),
         }
     }
 
@@ -44,6 +48,13 @@ impl Beside {
         self
     }
 
+    pub fn with_paired(mut self, paired: Paired) -> Beside
+        ensures { λ r. ⌜ r ≡ besideWithPaired paired self ⌝ }
+    {
+        self.paired = paired;
+        self
+    }
+
     // One sample on, with a travel of m.
     pub fn older(self, m: u32) -> Beside
         ensures { λ r. ⌜ r ≡ besideOlder m self ⌝ }
@@ -51,10 +62,12 @@ impl Beside {
         let alongside = self.alongside;
         let crossing = self.crossing;
         let limit = self.limit;
+        let paired = self.paired;
         Beside {
             alongside: alongside.older(),
             crossing: crossing.older(m),
             limit: limit.older(),
+            paired: paired.older(m),
         }
     }
 }

@@ -10,13 +10,18 @@ use sides::crossing::Crossing;
 use sides::crossing::CrossingOption;
 use sides::limit::Limit;
 use sides::limit::STEPS_TOP;
+use sides::pairs::First;
+use sides::pairs::FourLimits;
+use sides::pairs::Paired;
 use signals::control::Main;
 use signals::stop::Alongside;
 use signals::stop::Override;
 use signals::stop::Reminder;
 use signals::window::Window;
 ghost use mathlib.Core.Path.{_≡_};
-ghost use Rattle.desk.specs.Ranges.{brakeInside, mainInside, windowInside, overrideInside, reminderInside, optionInside, alongsideInside, crossingInside, limitInside, besideInside, deskInside};
+ghost use lib.Dec.{leb};
+ghost use Rattle.leaf.specs.Numbers.{distanceTop};
+ghost use Rattle.desk.specs.Ranges.{brakeInside, mainInside, windowInside, overrideInside, reminderInside, optionInside, alongsideInside, crossingInside, limitInside, fourInside, pairedInside, besideInside, deskInside};
 
 fn brake_inside(b: Brake) -> bool
     ensures { λ r. ⌜ r ≡ brakeInside b ⌝ }
@@ -72,13 +77,44 @@ fn limit_inside(l: Limit) -> bool
     (l.age <= AGE_TOP) & (l.steps <= STEPS_TOP)
 }
 
+fn four_inside(p: FourLimits) -> bool
+    ensures { λ r. ⌜ r ≡ fourInside p ⌝ }
+{
+    let thirty = p.thirty;
+    let forty = p.forty;
+    let fifty = p.fifty;
+    let seventy = p.seventy;
+    (thirty.age <= AGE_TOP)
+        & (forty.age <= AGE_TOP)
+        & (fifty.age <= AGE_TOP)
+        & (seventy.age <= AGE_TOP)
+}
+
+fn first_inside(f: First) -> bool
+    ensures { λ r. ⌜ r ≡ leb (f .distance) distanceTop ⌝ }
+{
+    f.distance <= DISTANCE_TOP
+}
+
+fn paired_inside(p: Paired) -> bool
+    ensures { λ r. ⌜ r ≡ pairedInside p ⌝ }
+{
+    let first = p.first;
+    let limits = p.limits;
+    first_inside(first) & four_inside(limits)
+}
+
 fn beside_inside(b: Beside) -> bool
     ensures { λ r. ⌜ r ≡ besideInside b ⌝ }
 {
     let alongside = b.alongside;
     let crossing = b.crossing;
     let limit = b.limit;
-    alongside_inside(alongside) & crossing_inside(crossing) & limit_inside(limit)
+    let paired = b.paired;
+    alongside_inside(alongside)
+        & crossing_inside(crossing)
+        & limit_inside(limit)
+        & paired_inside(paired)
 }
 
 // Is every number of the desk in its range.

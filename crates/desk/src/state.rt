@@ -4,6 +4,7 @@ use crate::brake::Brake;
 use sides::crossing::Crossing;
 use sides::crossing::CrossingOption;
 use sides::limit::Limit;
+use sides::pairs::Paired;
 use signals::control::Main;
 use signals::control::MainKind;
 use signals::stop::Alongside;
@@ -12,7 +13,7 @@ use signals::stop::Phase;
 use signals::stop::Reminder;
 use signals::window::Window;
 ghost use mathlib.Core.Path.{_≡_};
-ghost use Rattle.desk.specs.State.{withBts, withCode, withBrake, withMain, withWindow, withSide, withArmed, withReminder, withOption, withBeside, withAlongside, withCrossing, withLimit, takenOver, crossingSet, limitNow, freshDesk, restingOf, modeChanged};
+ghost use Rattle.desk.specs.State.{withBts, withCode, withBrake, withMain, withWindow, withSide, withArmed, withReminder, withOption, withBeside, withAlongside, withCrossing, withLimit, withPaired, takenOver, crossingSet, limitNow, freshDesk, restingOf, modeChanged};
 
 // `bts` is the mode, `code` the last code, `window` the main window. The brake comes last in memory, where a sample costs least
 // (tests/cost).
@@ -121,6 +122,13 @@ impl Desk {
         self.with_beside(beside.with_limit(limit))
     }
 
+    pub fn with_paired(self, paired: Paired) -> Desk
+        ensures { λ r. ⌜ r ≡ withPaired paired self ⌝ }
+    {
+        let beside = self.beside;
+        self.with_beside(beside.with_paired(paired))
+    }
+
     // A main control other than stop takes over, with the age and distance that its setting gives it.
     pub fn take_over(self, kind: MainKind, age: u16, distance: u32) -> Desk
         ensures { λ r. ⌜ r ≡ takenOver kind age distance self ⌝ }
@@ -140,12 +148,12 @@ impl Desk {
         self.with_crossing(crossing.set_unprotected(age, distance))
     }
 
-    // The limit is set by a reading of this age.
-    pub fn set_limit(self, age: u16) -> Desk
-        ensures { λ r. ⌜ r ≡ limitNow age self ⌝ }
+    // The limit is set by a reading of this age, as it is read or by its answer.
+    pub fn set_limit(self, age: u16, answered: bool) -> Desk
+        ensures { λ r. ⌜ r ≡ limitNow answered age self ⌝ }
     {
         let limit = self.beside.limit;
-        self.with_limit(limit.set(age))
+        self.with_limit(limit.set(age, answered))
     }
 
     // A desk as it opens: in CONV with the start row as main, last code 0, no brake, at standstill.
