@@ -1,8 +1,8 @@
 -- Document 01, "The sample": ".. buttons, lowest bit first; ..". "Buttons: 0 announcement, 1 preannouncement, 2 caution, 3 conditional clear,
 -- 4 before-stop, 5 crossing, 6 limit, 7 override, 8 increase, 9 hide, 10 rearm." Bit k has weight 2 to the k.
 use Prim.Native.Nat.{ℕ}
-use mathlib.Core.Bool.{Bool, true, false, _&&_, not}
-use lib.Dec.{eqb}
+use mathlib.Core.Bool.{Bool, true, false, _&&_, _||_, not}
+use lib.Dec.{eqb, ltb}
 use Rattle.leaf.specs.Choosing.{pick}
 use Rattle.leaf.specs.Numbers.{bitOf}
 use Rattle.leaf.specs.Buttons.{announcementButton, preannouncementButton, cautionButton, conditionalClearButton, beforeStopButton, crossingButton, limitButton, overrideButton, increaseButton, hideButton}
@@ -13,9 +13,10 @@ use Rattle.signals.specs.Windows.{closed, answersOf, asksOf}
 use Rattle.signals.specs.MainControl.{mayIncrease, increased}
 use Rattle.signals.specs.Stop.{armedNow, isLit, takesPress, pressedOf}
 use Rattle.sides.specs.Crossing.{noOption, protectedSet}
-use Rattle.sides.specs.Limit.{noLimit, mayStep, stepped, hidden, removable}
+use Rattle.sides.specs.Limit.{noLimit, steppedFinal, mayStep, stepped, hidden, removable}
+use Rattle.sides.specs.Pairs.{noPaired, fourWith, pairedSpeed, lowestToGo}
 use Rattle.desk.specs.declared.state.Desk.{Desk}
-use Rattle.desk.specs.State.{withMain, withWindow, withSide, withArmed, withReminder, withCrossing, withOption, withLimit, takenOver, crossingSet, limitNow}
+use Rattle.desk.specs.State.{withMain, withWindow, withSide, withArmed, withReminder, withCrossing, withOption, withLimit, withPaired, takenOver, crossingSet, limitNow}
 use Rattle.curve.specs.Curve.{rowSpeed}
 
 -- ---- what an answer sets
@@ -27,7 +28,7 @@ chosen weight age distance d =
     pick (eqb weight announcementButton) (takenOver Announcement age distance d)
     (pick (eqb weight preannouncementButton) (takenOver Preannouncement age distance d)
     (pick (eqb weight cautionButton) (takenOver Caution age distance d)
-    (pick (eqb weight crossingButton) (crossingSet age distance d) (pick (eqb weight limitButton) (limitNow age d) d))))
+    (pick (eqb weight crossingButton) (crossingSet age distance d) (pick (eqb weight limitButton) (limitNow true age d) d))))
 
 -- beacons 1 and 9 set what the button chooses; the others set theirs at the reading, and an answer only closes their window
 unfoldable pub answeredBy : ℕ → Window → Desk → Desk
@@ -64,6 +65,26 @@ unfoldable pub limitRemoved : Bool → Desk → Desk
 limitRemoved true d = withLimit noLimit d
 limitRemoved false d = d
 
+-- 02 g: "The limit button takes off the lowest that may go (paired first).": the paired one of this speed, none where it is 0
+unfoldable pub pairedRemoved : ℕ → Desk → Desk
+pairedRemoved speed d =
+    pick (eqb speed 0) d
+    (withPaired (record { first = d .beside .paired .first; limits = fourWith speed noPaired (d .beside .paired .limits) }) d)
+
+-- the single one goes where it may, and no paired one that may go is as low: "of those that may go the lowest by final value (the single's with
+-- steps)" (g23); ""Paired first" is among equal values only" (g24). The speed is that of the lowest paired one that may go, 0 where none may
+abbrev pub singleFirst : ℕ → Row → ℕ → ℕ → Desk → Bool
+singleFirst m row top speed d =
+    removable m (row .last) top (d .beside .limit)
+    && (eqb speed 0 || ltb (steppedFinal (row .last) (d .beside .limit .steps) top) (pairedSpeed top speed))
+
+-- "Button 6, if no window takes it, takes off one" (g23)
+unfoldable pub lowestRemoved : Bool → ℕ → Row → ℕ → Desk → Desk
+lowestRemoved true m row top d =
+    let speed : ℕ = lowestToGo m top (d .beside .paired .limits) in
+    pick (singleFirst m row top speed d) (limitRemoved true d) (pairedRemoved speed d)
+lowestRemoved false m row top d = d
+
 -- the reminder's "press at ages 1..49"
 unfoldable pub reminderAnswered : Bool → Desk → Desk
 reminderAnswered true d = withReminder (pressedOf (d .reminder .phase)) d
@@ -90,9 +111,9 @@ limitStepped false d = d
 unfoldable pub crossingPressed : Bool → Desk → Desk
 crossingPressed on d = optionUsed (freeFor on crossingButton d && d .option .on) (pressed on crossingButton d)
 
--- 6 limit: the windows, then the limit, where it may go
+-- 6 limit: the windows, then the lowest limit that may go
 unfoldable pub limitPressed : Bool → ℕ → Row → ℕ → Desk → Desk
-limitPressed on m row top d = limitRemoved (freeFor on limitButton d && removable m (row .last) top (d .beside .limit)) (pressed on limitButton d)
+limitPressed on m row top d = lowestRemoved (freeFor on limitButton d) m row top (pressed on limitButton d)
 
 -- 7 override: "A press while lit doesn't arm." "Override is dead", in BTS
 unfoldable pub overridePressed : Bool → Desk → Desk
@@ -100,10 +121,10 @@ overridePressed on d =
     overrideArmed (on && not (d .bts) && not (isLit (d .reminder .phase)))
     (reminderAnswered (on && not (d .bts) && takesPress (d .reminder)) d)
 
--- 8 increase: stop, where it has use for it, else the limit
-unfoldable pub increasePressed : Bool → Row → ℕ → Desk → Desk
-increasePressed on row top d =
-    limitStepped (on && not (mayIncrease (d .main)) && mayStep (rowSpeed row (d .beside .limit .age)) (row .last) top (d .beside .limit))
+-- 8 increase: stop, where it has use for it, else the limit; whether the card has pairs decides which limits step (02 g)
+unfoldable pub increasePressed : Bool → Bool → Row → ℕ → Desk → Desk
+increasePressed on pairs row top d =
+    limitStepped (on && not (mayIncrease (d .main)) && mayStep pairs (rowSpeed row (d .beside .limit .age)) (row .last) top (d .beside .limit))
     (stopIncreased (on && mayIncrease (d .main)) d)
 
 -- 9 hide
@@ -123,13 +144,13 @@ windowPresses b d =
     (pressedAmong b cautionButton (pressedAmong b preannouncementButton (pressedAmong b announcementButton d))))
 
 -- "lowest bit first"; 10, rearm, belongs to the brake
-unfoldable pub allPresses : ℕ → ℕ → Row → ℕ → Desk → Desk
-allPresses b m row top d =
+unfoldable pub allPresses : ℕ → ℕ → Bool → Row → ℕ → Desk → Desk
+allPresses b m pairs row top d =
     hidePressed (bitOf b hideButton)
-    (increasePressed (bitOf b increaseButton) row top
+    (increasePressed (bitOf b increaseButton) pairs row top
     (overridePressed (bitOf b overrideButton)
     (limitPressed (bitOf b limitButton) m row top (crossingPressed (bitOf b crossingButton) (windowPresses b d)))))
 
 -- the buttons' step: a sample without a press leaves the desk as it is
-unfoldable pub pressesOf : ℕ → ℕ → Row → ℕ → Desk → Desk
-pressesOf b m row top d = pick (eqb b 0) d (allPresses b m row top d)
+unfoldable pub pressesOf : ℕ → ℕ → Bool → Row → ℕ → Desk → Desk
+pressesOf b m pairs row top d = pick (eqb b 0) d (allPresses b m pairs row top d)

@@ -6,11 +6,14 @@ use leaf::button;
 use leaf::has_bit;
 use sides::crossing::CrossingOption;
 use sides::limit::Limit;
+use sides::pairs::Paired;
+use sides::pairs::PairedLimit;
+use sides::pairs::paired_speed;
 use signals::control::MainKind;
 use signals::stop::Override;
 use signals::window::Window;
 ghost use mathlib.Core.Path.{_≡_};
-ghost use Rattle.buttons.specs.Buttons.{chosen, answeredBy, mainAnswered, sideAnswered, pressed, freeFor, optionUsed, limitRemoved, reminderAnswered, overrideArmed, stopIncreased, limitStepped, crossingPressed, limitPressed, overridePressed, increasePressed, hidePressed, pressedAmong, windowPresses, allPresses, pressesOf};
+ghost use Rattle.buttons.specs.Buttons.{chosen, answeredBy, mainAnswered, sideAnswered, pressed, freeFor, optionUsed, limitRemoved, pairedRemoved, singleFirst, lowestRemoved, reminderAnswered, overrideArmed, stopIncreased, limitStepped, crossingPressed, limitPressed, overridePressed, increasePressed, hidePressed, pressedAmong, windowPresses, allPresses, pressesOf};
 
 // What the button of this weight sets in answer to beacon 1 or 9, with the age and distance of that reading.
 fn choose(d: Desk, weight: u16, age: u16, distance: u32) -> Desk
@@ -21,7 +24,7 @@ fn choose(d: Desk, weight: u16, age: u16, distance: u32) -> Desk
         button::PREANNOUNCEMENT => d.take_over(MainKind::Preannouncement, age, distance),
         button::CAUTION => d.take_over(MainKind::Caution, age, distance),
         button::CROSSING => d.set_unprotected(age, distance),
-        button::LIMIT => d.set_limit(age),
+        button::LIMIT => d.set_limit(age, true),
         _ => d,
     }
 }
@@ -103,6 +106,50 @@ fn remove_limit(d: Desk, removed: bool) -> Desk
     }
 }
 
+// The paired limit of this speed goes; none where it is 0.
+fn remove_paired(d: Desk, speed: u8) -> Desk
+    ensures { λ r. ⌜ r ≡ pairedRemoved speed d ⌝ }
+{
+    let none = speed == 0;
+    if none {
+        return d;
+    }
+    let beside = d.beside;
+    let paired = beside.paired;
+    let first = paired.first;
+    let limits = paired.limits;
+    d.with_paired(Paired {
+        first: first,
+        limits: limits.with(speed, PairedLimit::none()),
+    })
+}
+
+// Is the single limit the lowest that may go; `speed` is that of the lowest paired one that may, 0 where none may.
+fn single_first(d: Desk, m: u32, row: Row, top: u32, speed: u8) -> bool
+    ensures { λ r. ⌜ r ≡ singleFirst m row top speed d ⌝ }
+{
+    let limit = d.beside.limit;
+    let may_go = limit.is_removable(m, row.last, top);
+    let lower = limit.final_value(row.last, top) < paired_speed(top, speed);
+    may_go & ((speed == 0) | lower)
+}
+
+// The lowest limit that may go at m mm/s goes, of equal ones a paired one.
+fn remove_lowest(d: Desk, free: bool, m: u32, row: Row, top: u32) -> Desk
+    ensures { λ r. ⌜ r ≡ lowestRemoved free m row top d ⌝ }
+{
+    if free {
+        let limits = d.beside.paired.limits;
+        let speed = limits.lowest_to_go(m, top);
+        let single = single_first(d, m, row, top, speed);
+        if single {
+            return remove_limit(d, true);
+        }
+        return remove_paired(d, speed);
+    }
+    d
+}
+
 fn answer_reminder(d: Desk, right: bool) -> Desk
     ensures { λ r. ⌜ r ≡ reminderAnswered right d ⌝ }
 {
@@ -147,18 +194,22 @@ fn press_crossing(d: Desk, on: bool) -> Desk
     ensures { λ r. ⌜ r ≡ crossingPressed on d ⌝ }
 {
     let option = d.option;
-    let free = is_free(d, on, button::CROSSING);
-    use_option(press(d, on, button::CROSSING), free & option.on)
+    if on {
+        let free = is_free(d, true, button::CROSSING);
+        return use_option(press(d, true, button::CROSSING), free & option.on);
+    }
+    d
 }
 
-// Button 6: the windows, then the limit, where it may go.
+// Button 6: the windows, then the lowest limit that may go.
 fn press_limit(d: Desk, on: bool, m: u32, row: Row, top: u32) -> Desk
     ensures { λ r. ⌜ r ≡ limitPressed on m row top d ⌝ }
 {
-    let limit = d.beside.limit;
-    let free = is_free(d, on, button::LIMIT);
-    let may_go = limit.is_removable(m, row.last, top);
-    remove_limit(press(d, on, button::LIMIT), free & may_go)
+    if on {
+        let free = is_free(d, true, button::LIMIT);
+        return remove_lowest(press(d, true, button::LIMIT), free, m, row, top);
+    }
+    d
 }
 
 // Button 7: a lit reminder, or else the override. Both are dead in BTS.
@@ -173,14 +224,14 @@ fn press_override(d: Desk, on: bool) -> Desk
 }
 
 // Button 8: stop, where it has use for it, or else the limit.
-fn press_increase(d: Desk, on: bool, row: Row, top: u32) -> Desk
-    ensures { λ r. ⌜ r ≡ increasePressed on row top d ⌝ }
+fn press_increase(d: Desk, on: bool, pairs: bool, row: Row, top: u32) -> Desk
+    ensures { λ r. ⌜ r ≡ increasePressed on pairs row top d ⌝ }
 {
     let main = d.main;
     let limit = d.beside.limit;
     let stop = main.may_increase();
     let value = row_speed(row, limit.age);
-    let steps = limit.may_step(value, row.last, top);
+    let steps = limit.may_step(pairs, value, row.last, top);
     step_limit(increase_stop(d, on & stop), on & !stop & steps)
 }
 
@@ -196,7 +247,11 @@ fn press_hide(d: Desk, on: bool) -> Desk
 fn press_among(d: Desk, b: u16, weight: u16) -> Desk
     ensures { λ r. ⌜ r ≡ pressedAmong b weight d ⌝ }
 {
-    press(d, has_bit(b, weight), weight)
+    let on = has_bit(b, weight);
+    if on {
+        return press(d, true, weight);
+    }
+    d
 }
 
 // Buttons 0 to 4: only windows have use for them.
@@ -210,25 +265,25 @@ fn press_answers(d: Desk, b: u16) -> Desk
     press_among(d, b, button::BEFORE_STOP)
 }
 
-fn press_all(d: Desk, b: u16, m: u32, row: Row, top: u32) -> Desk
-    ensures { λ r. ⌜ r ≡ allPresses b m row top d ⌝ }
+fn press_all(d: Desk, b: u16, m: u32, pairs: bool, row: Row, top: u32) -> Desk
+    ensures { λ r. ⌜ r ≡ allPresses b m pairs row top d ⌝ }
 {
     let d = press_answers(d, b);
     let d = press_crossing(d, has_bit(b, button::CROSSING));
     let d = press_limit(d, has_bit(b, button::LIMIT), m, row, top);
     let d = press_override(d, has_bit(b, button::OVERRIDE));
-    let d = press_increase(d, has_bit(b, button::INCREASE), row, top);
+    let d = press_increase(d, has_bit(b, button::INCREASE), pairs, row, top);
     press_hide(d, has_bit(b, button::HIDE))
 }
 
-// The buttons b of a sample at m mm/s; `row` is row 6, `top` is T. Rearm belongs to the brake.
-pub fn take_buttons(d: Desk, b: u16, m: u32, row: Row, top: u32) -> Desk
-    ensures { λ r. ⌜ r ≡ pressesOf b m row top d ⌝ }
+// The buttons b of a sample at m mm/s; `pairs` says that the card has pairs, `row` is row 6, `top` is T. Rearm belongs to the brake.
+pub fn take_buttons(d: Desk, b: u16, m: u32, pairs: bool, row: Row, top: u32) -> Desk
+    ensures { λ r. ⌜ r ≡ pressesOf b m pairs row top d ⌝ }
 {
     let none = b == 0;
     if none {
         d
     } else {
-        press_all(d, b, m, row, top)
+        press_all(d, b, m, pairs, row, top)
     }
 }
