@@ -1,10 +1,11 @@
--- Document 01, "Controls": the beacons. "Each new main control replaces the old and starts afresh": age 0 and distance 0 in the sample of
+-- Document 01, "Controls", and document 02 g), "Limit beacons in pairs": the beacons. "Each new main control replaces the old and starts afresh": age 0 and distance 0 in the sample of
 -- the reading.
 use Prim.Native.Nat.{ℕ}
 use mathlib.Core.Bool.{Bool, true, false, _&&_, _||_, not}
 use lib.Dec.{eqb}
 use Rattle.leaf.specs.Choosing.{pick}
 use Rattle.leaf.specs.Numbers.{within}
+use Rattle.card.specs.declared.Pairs.{Pairs}
 use Rattle.signals.specs.declared.window.Waits.{Waits}
 use Rattle.signals.specs.declared.window.Waits.the-variants as waits
 use Rattle.signals.specs.declared.control.MainKind.{MainKind}
@@ -14,10 +15,14 @@ use Rattle.signals.specs.declared.stop.Reminder.{Reminder}
 use Rattle.signals.specs.Windows.{missTime, zoneMiss, closed, opened, timeLeft}
 use Rattle.signals.specs.MainControl.{mainOf, nearOf}
 use Rattle.signals.specs.Stop.{noneAlongside, disarmed, freshAs}
+use Rattle.sides.specs.declared.limit.Limit.{Limit}
+use Rattle.sides.specs.declared.pairs.First.{First}
 use Rattle.sides.specs.Crossing.{optionNow, protectedSet}
+use Rattle.sides.specs.Limit.{noLimit}
+use Rattle.sides.specs.Pairs.{noFirst, isEleven, firstRead, isSecond, pairedNow, fourWith}
 use Rattle.desk.specs.declared.state.Desk.{Desk}
 use Rattle.desk.specs.declared.clock.Turn.{Turn}
-use Rattle.desk.specs.State.{withCode, withMain, withWindow, withSide, withAlongside, withArmed, withReminder, withCrossing, withOption, takenOver, limitNow}
+use Rattle.desk.specs.State.{withCode, withMain, withWindow, withSide, withAlongside, withArmed, withReminder, withCrossing, withOption, withLimit, withPaired, takenOver, limitNow}
 use Rattle.desk.specs.Clock.{mainCounts, sideCounts}
 
 -- "beacon 0..11": every code but 0 is that of a beacon; 02 c: "Code 12 is no beacon"
@@ -101,12 +106,58 @@ unfoldable pub reading9 : Desk → Desk
 reading9 d = sideOpened waits.Nine (sideCounts d)
 
 -- "10 and 11 set limit at once and wait for 6."
-unfoldable pub readingLimit : Desk → Desk
-readingLimit d = sideOpened waits.Limit (limitNow 0 (sideCounts d))
+unfoldable pub readingSingle : Desk → Desk
+readingSingle d = sideOpened waits.Limit (limitNow false 0 (sideCounts d))
+
+-- ---- 02 g: "Document 001 pairs limit beacons, giving 30, 40, 50 or 70 km/h; document 01 knows single ones, which is wrong."
+
+-- "the speeds for pairs 10-10, 10-11, 11-10, 11-11"
+unfoldable pub speedOfPair : Pairs → First → ℕ → ℕ
+speedOfPair pairs first code =
+    pick (isEleven (first .kind))
+    (pick (eqb code 11) (pairs .«eleven_eleven») (pairs .«eleven_ten»))
+    (pick (eqb code 11) (pairs .«ten_eleven») (pairs .«ten_ten»))
+
+-- "The first is the last 10 or 11 read that is in no pair." (g8); its limit is its own where no single limit stood as it was read
+unfoldable pub firstKept : ℕ → Bool → Desk → Desk
+firstKept code own d = withPaired (record { first = firstRead code own; limits = d .beside .paired .limits }) d
+
+-- "A first acts as 01's 10 or 11: single limit at once (a repeat: steps 0, age kept), window for 6." (g12)
+unfoldable pub readingFirst : ℕ → Desk → Desk
+readingFirst code d = sideOpened waits.Limit (firstKept code (not (d .beside .limit .on)) (limitNow false 0 (sideCounts d)))
+
+-- ".. and the first's is dropped, unless one stood before it": "The first's limit is dropped when no single limit stood as the first was read
+-- and nothing else has set it since." (g15): since the first was read, an answer alone can have set it
+abbrev pub dropsSingle : First → Limit → Bool
+dropsSingle first limit = first .own && not (limit .answered)
+
+unfoldable pub singleDropped : Desk → Desk
+singleDropped d = pick (dropsSingle (d .beside .paired .first) (d .beside .limit)) (withLimit noLimit d) d
+
+-- "the second sets no single limit"; it sets its speed's paired limit, "in S in that very sample" (g13). "a beacon belongs to one pair only": no
+-- first is left
+unfoldable pub pairSet : ℕ → Desk → Desk
+pairSet speed d = withPaired (record { first = noFirst; limits = fourWith speed pairedNow (d .beside .paired .limits) }) (singleDropped d)
+
+-- "The second waits for 6 too: in an open side window's place, to that one's miss (a displaced 9 counts), else in a fresh window" (g14)
+unfoldable pub readingSecond : ℕ → Desk → Desk
+readingSecond speed d = sideOpened waits.Limit (pairSet speed (sideCounts d))
+
+-- on a card with pairs: "A second 10 or 11 read at no more than that distance from the first makes a pair"; "one further off is itself the
+-- first" (g8)
+unfoldable pub readingPaired : ℕ → Pairs → Desk → Desk
+readingPaired code pairs d =
+    pick (isSecond (pairs .distance) (d .beside .paired .first))
+    (readingSecond (speedOfPair pairs (d .beside .paired .first) code) d)
+    (readingFirst code d)
+
+-- "On version 1 and 2 cards all stays"
+unfoldable pub readingLimit : ℕ → Bool → Pairs → Desk → Desk
+readingLimit code paired pairs d = pick paired (readingPaired code pairs d) (readingSingle d)
 
 -- a beacon of this code, 1..11, acts
-unfoldable pub readingOf : ℕ → Bool → Bool → Desk → Desk
-readingOf code protects zones d =
+unfoldable pub readingOf : ℕ → Bool → Bool → Bool → Pairs → Desk → Desk
+readingOf code protects zones paired pairs d =
     pick (eqb code 1) (reading1 d)
     (pick (eqb code 2) (readingRow main.ConditionalClear waits.Two d)
     (pick (eqb code 3) (reading3 protects d)
@@ -114,18 +165,18 @@ readingOf code protects zones d =
     (pick (eqb code 5) (readingRow main.Preannouncement waits.Five d)
     (pick (eqb code 6) (readingRow main.Caution waits.Six d)
     (pick (eqb code 7) (reading7 zones d)
-    (pick (eqb code 8) (reading8 d) (pick (eqb code 9) (reading9 d) (readingLimit d)))))))))
+    (pick (eqb code 8) (reading8 d) (pick (eqb code 9) (reading9 d) (readingLimit code paired pairs d)))))))))
 
-unfoldable pub readIf : Bool → ℕ → Bool → Bool → Desk → Desk
-readIf true code protects zones d = readingOf code protects zones d
-readIf false code protects zones d = d
+unfoldable pub readIf : Bool → ℕ → Bool → Bool → Bool → Pairs → Desk → Desk
+readIf true code protects zones paired pairs d = readingOf code protects zones paired pairs d
+readIf false code protects zones paired pairs d = d
 
 -- the beacon's step: its code is remembered, read or not, "12 becomes the last code in either mode" (c5); "beacon 8 without armed override is
 -- cause 4"
-unfoldable pub beaconTaken : ℕ → Bool → Bool → Bool → Desk → Turn
-beaconTaken code protects zones readsInBts d =
+unfoldable pub beaconTaken : ℕ → Bool → Bool → Bool → Bool → Pairs → Desk → Turn
+beaconTaken code protects zones readsInBts paired pairs d =
     let reads : Bool = readsOf code readsInBts (d .bts) (d .code) in
     record {
-      desk = readIf reads code protects zones (withCode code d);
+      desk = readIf reads code protects zones paired pairs (withCode code d);
       cause = pick (reads && eqb code 8 && not (d .armed .armed)) 4 0;
     }
