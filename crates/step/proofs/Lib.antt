@@ -1,3 +1,4 @@
 pub mod Lowest
 pub mod Least
 pub mod Reasons
+pub mod Paired

@@ -12,7 +12,8 @@ use Rattle.step.specs.declared.speed.Reason.the-variants as reason
 use Rattle.step.specs.declared.speed.Standing.{Standing}
 use Rattle.step.specs.Speed.{none, limits, supervisedOf}
 
--- "The printed ride may carry the reason, 1..7": "Reasons are numbered in 02's order" (f2)
+-- "The printed ride may carry the reason, 1..7": "Reasons are numbered in 02's order" (f2). 02 g: paired limits "count
+-- as limit in .. f)": "reason 7" (g25)
 abbrev pub reasonNumber : Reason → ℕ
 reasonNumber reason.None = 0
 reasonNumber reason.Vmax = 1
@@ -22,6 +23,7 @@ reasonNumber reason.Main = 4
 reasonNumber reason.Alongside = 5
 reasonNumber reason.Crossing = 6
 reasonNumber reason.Limit = 7
+reasonNumber reason.Paired = 7
 
 -- the first of a list that stands and has this speed
 abbrev pub firstAt : ℕ → List Standing → Standing

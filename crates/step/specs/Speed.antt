@@ -1,4 +1,5 @@
 -- Document 01, "Controls": "Supervised speed S, hundredths of km/h, is the least of vmax, T and standing controls; in BTS also BTS speed."
+-- Document 02 g): paired limits "count as limit in S".
 use Prim.Native.Nat.{ℕ, _*_}
 use mathlib.Core.Bool.{Bool, true, false, _&&_, _||_, not}
 use mathlib.Core.List.{List, [], _∷_}
@@ -14,8 +15,10 @@ use Rattle.signals.specs.MainControl.{limitsOf}
 use Rattle.signals.specs.Stop.{stopSpeed}
 use Rattle.sides.specs.declared.crossing.Crossing.{Crossing}
 use Rattle.sides.specs.declared.limit.Limit.{Limit}
+use Rattle.sides.specs.declared.pairs.FourLimits.{FourLimits}
 use Rattle.sides.specs.Crossing.{stands, crossingSpeed, turnedAt}
 use Rattle.sides.specs.Limit.{limitSpeed}
+use Rattle.sides.specs.Pairs.{pairedSpeed, pairedAt, pairSpeeds}
 use Rattle.desk.specs.declared.beside.Beside.{Beside}
 use Rattle.desk.specs.declared.state.Desk.{Desk}
 use Rattle.desk.specs.State.{withCrossing}
@@ -73,10 +76,21 @@ crossingLimit row top c = standing reason.Crossing (stands (c .kind)) (crossingS
 unfoldable pub limitLimit : Row → ℕ → Limit → Standing
 limitLimit row top l = standing reason.Limit (l .on) (limitSpeed (rowSpeed row (l .age)) (row .last) top l) (l .age)
 
--- ---- all of them, in their order: vmax, T, BTS speed, main, stop alongside, crossing, limit
+-- 02 g: the paired limit of a speed, "min(T, its speed), aged from the second beacon that last set it"
+unfoldable pub pairedLimit : ℕ → FourLimits → ℕ → Standing
+pairedLimit top p speed = standing reason.Paired (pairedAt speed p .on) (pairedSpeed top speed) (pairedAt speed p .age)
+
+abbrev pub pairedLimits : ℕ → FourLimits → List ℕ → List Standing
+pairedLimits top p [] = []
+pairedLimits top p (speed ∷ rest) = pairedLimit top p speed ∷ pairedLimits top p rest
+
+-- ---- all of them, in their order: vmax, T, BTS speed, main, stop alongside, crossing, limit; 02 g: the paired ones "count as limit in S", and
+-- "of equal ones the single is named", so they come behind it
 
 abbrev pub limitsBeside : Settings → ℕ → Beside → List Standing
-limitsBeside s top b = alongsideLimit top (b .alongside) ∷ crossingLimit (s .crossing) top (b .crossing) ∷ limitLimit (s .limit) top (b .limit) ∷ []
+limitsBeside s top b =
+    alongsideLimit top (b .alongside) ∷ crossingLimit (s .crossing) top (b .crossing) ∷ limitLimit (s .limit) top (b .limit)
+    ∷ pairedLimits top (b .paired .limits) pairSpeeds
 
 abbrev pub limits : Settings → ℕ → Desk → List Standing
 limits s top d =

@@ -8,6 +8,7 @@ use brake::lamps_of;
 use brake::lowest;
 use brake::put_brake;
 use buttons::take_buttons;
+use card::Card;
 use card::Settings;
 use desk::clock::Turn;
 use desk::clock::begin;
@@ -20,7 +21,7 @@ use speed::reason_at;
 use speed::too_fast;
 use speed::turn_crossing;
 ghost use mathlib.Core.Path.{_≡_};
-ghost use Rattle.step.specs.Step.{movedOf, answerOf, aroseOf, judgedOf, stepOf};
+ghost use Rattle.step.specs.Step.{movedOf, limitGoes, answerOf, aroseOf, judgedOf, stepOf};
 
 // What the desk takes of an accepted sample: speed and travel, pulses, beacon code, buttons, and the mode.
 pub struct Input {
@@ -48,13 +49,19 @@ pub struct Stepped {
     pub named: Standing,
 }
 
+// The version of cards that have pairs of limit beacons.
+const PAIRS_VERSION: u8 = 3;
+
 // Mode, ages and misses, buttons, beacon.
-fn moved(d: Desk, settings: Settings, top: u32, x: Input) -> Turn
-    ensures { λ r. ⌜ r ≡ movedOf settings top x d ⌝ }
+fn moved(d: Desk, card: Card, top: u32, x: Input) -> Turn
+    ensures { λ r. ⌜ r ≡ movedOf card top x d ⌝ }
 {
     let code = x.beacon;
+    let settings = card.settings;
+    let has_pairs = card.version == PAIRS_VERSION;
     let functions = card::functions_of(settings.functions);
     let row = settings.limit;
+    let pairs = settings.pairs;
     let begun = begin(d, x.bts, x.m, functions.reminds, settings.x, settings.y);
     let aged = begun.desk;
     // no press, and the code of the sample before: there is nothing to take
@@ -62,13 +69,15 @@ fn moved(d: Desk, settings: Settings, top: u32, x: Input) -> Turn
     if idle {
         return begun;
     }
-    let pressed = take_buttons(aged, x.buttons, x.m, row, top);
+    let pressed = take_buttons(aged, x.buttons, x.m, has_pairs, row, top);
     let read = take_beacon(
         pressed,
         code,
         functions.protects,
         functions.zones,
         functions.reads_in_bts,
+        has_pairs,
+        pairs,
     );
     let after = read.desk;
     Turn {
@@ -77,19 +86,29 @@ fn moved(d: Desk, settings: Settings, top: u32, x: Input) -> Turn
     }
 }
 
+// May a limit go at m mm/s, the single one or a paired one; `last` is row 6's final.
+fn limit_goes(d: Desk, m: u32, last: u8, top: u32) -> bool
+    ensures { λ r. ⌜ r ≡ limitGoes m last top d ⌝ }
+{
+    let limit = d.beside.limit;
+    let limits = d.beside.paired.limits;
+    limit.is_removable(m, last, top) | !(limits.lowest_to_go(m, top) == 0)
+}
+
 fn answer_at(d: Desk, settings: Settings, top: u32, m: u32, still: bool, speed: u32) -> Answer
     ensures { λ r. ⌜ r ≡ answerOf settings top m still speed d ⌝ }
 {
     let crossing = d.beside.crossing;
     let limit = d.beside.limit;
+    let limits = d.beside.paired.limits;
     let row = settings.limit;
-    let removable = limit.is_removable(m, row.last, top);
+    let goes = limit_goes(d, m, row.last, top);
     Answer {
         speed: speed,
-        lamps: lamps_of(d, removable, still),
+        lamps: lamps_of(d, goes, still),
         cause: d.brake.cause,
         icon: crossing.icon(),
-        limit: limit.on,
+        limit: limit.on | limits.any(),
     }
 }
 
@@ -127,10 +146,11 @@ fn judged(d: Desk, settings: Settings, top: u32, x: Input, cause: u8) -> Stepped
 }
 
 // One sample; `top` is T in hundredths of km/h.
-pub fn step(d: Desk, settings: Settings, top: u32, x: Input) -> Stepped
-    ensures { λ r. ⌜ r ≡ stepOf settings top x d ⌝ }
+pub fn step(d: Desk, card: Card, top: u32, x: Input) -> Stepped
+    ensures { λ r. ⌜ r ≡ stepOf card top x d ⌝ }
 {
-    let turn = moved(d, settings, top, x);
+    let settings = card.settings;
+    let turn = moved(d, card, top, x);
     let after = turn.desk;
     judged(after, settings, top, x, turn.cause)
 }

@@ -6,6 +6,8 @@ use desk::beside::Beside;
 use desk::state::Desk;
 use sides::crossing::Crossing;
 use sides::limit::Limit;
+use sides::pairs::FourLimits;
+use sides::pairs::paired_speed;
 use signals::control::Main;
 use signals::control::MainKind;
 use signals::stop::Alongside;
@@ -14,11 +16,12 @@ ghost use mathlib.Core.Path.{_≡_};
 ghost use mathlib.Core.Bool.{true};
 ghost use Prim.Native.Nat.{_+_};
 ghost use Rattle.leaf.specs.Numbers.{exceedsOf};
-ghost use Rattle.step.specs.Speed.{crossingTurned, mainSpeed, none, standing, lower, btsLimit, mainLimit, alongsideLimit, crossingLimit, limitLimit, leastOf, limitsBeside, limits};
+ghost use Rattle.sides.specs.Pairs.{pairSpeeds};
+ghost use Rattle.step.specs.Speed.{crossingTurned, mainSpeed, none, standing, lower, btsLimit, mainLimit, alongsideLimit, crossingLimit, limitLimit, pairedLimit, pairedLimits, leastOf, limitsBeside, limits};
 ghost use Rattle.step.specs.Reason.{reasonNumber, reasonOf};
 
 // Which limit it is, in the order in which equal ones are named: vmax, T of the train type, BTS speed, the main control, the stop that stays
-// alongside, the crossing, the limit.
+// alongside, the crossing, the limit, a paired limit.
 pub enum Reason {
     None,
     Vmax,
@@ -28,9 +31,10 @@ pub enum Reason {
     Alongside,
     Crossing,
     Limit,
+    Paired,
 }
 
-// The number of a reason, 1..7, 0 for none.
+// The number of a reason, 1..7, 0 for none. A paired limit counts as limit.
 pub fn reason_number(reason: Reason) -> u8
     ensures { λ r. ⌜ r ≡ reasonNumber reason ⌝ }
 {
@@ -43,6 +47,7 @@ pub fn reason_number(reason: Reason) -> u8
         Reason::Alongside => 5,
         Reason::Crossing => 6,
         Reason::Limit => 7,
+        Reason::Paired => 7,
     }
 }
 
@@ -193,6 +198,31 @@ fn limit_limit(limit: Limit, row: Row, top: u32) -> Standing
     Standing::none()
 }
 
+fn paired_limit(limits: FourLimits, speed: u8, top: u32) -> Standing
+    ensures { λ r. ⌜ r ≡ pairedLimit top limits speed ⌝ }
+{
+    let limit = limits.at(speed);
+    if limit.on {
+        return Standing::at(Reason::Paired, paired_speed(top, speed), limit.age);
+    }
+    Standing::none()
+}
+
+// The lowest so far, with the paired limits.
+fn or_paired(lowest: Standing, limits: FourLimits, top: u32) -> Standing
+    ensures { λ r. ⌜ r ≡ leastOf lowest (pairedLimits top limits pairSpeeds) ⌝ }
+{
+    let any = limits.any();
+    if any {
+        return lowest
+            .or_lower(paired_limit(limits, 30, top))
+            .or_lower(paired_limit(limits, 40, top))
+            .or_lower(paired_limit(limits, 50, top))
+            .or_lower(paired_limit(limits, 70, top));
+    }
+    lowest
+}
+
 // The lowest so far, with what stands beside the main control.
 fn or_beside(lowest: Standing, beside: Beside, settings: Settings, top: u32) -> Standing
     ensures { λ r. ⌜ r ≡ leastOf lowest (limitsBeside settings top beside) ⌝ }
@@ -202,10 +232,12 @@ fn or_beside(lowest: Standing, beside: Beside, settings: Settings, top: u32) -> 
     let limit = beside.limit;
     let crossing_row = settings.crossing;
     let limit_row = settings.limit;
-    lowest
+    let limits = beside.paired.limits;
+    let single = lowest
         .or_lower(alongside_limit(alongside, top))
         .or_lower(crossing_limit(crossing, crossing_row, top))
-        .or_lower(limit_limit(limit, limit_row, top))
+        .or_lower(limit_limit(limit, limit_row, top));
+    or_paired(single, limits, top)
 }
 
 // The lowest of the limits that stand, of equal ones the first.
