@@ -2,7 +2,7 @@
 use mathlib.Core.Path.{_≡_, refl, ap, _∙_}
 use mathlib.Core.Bool.{true, false}
 use Prim.Native.Nat.{ℕ}
-use Rattle.card.specs.declared.Settings.{Settings}
+use Rattle.card.specs.declared.Card.{Card}
 use Rattle.desk.specs.declared.state.Desk.{Desk}
 use Rattle.step.specs.declared.Input.{Input}
 use Rattle.leaf.specs.declared.Refusal.the-variants.{Number}
@@ -23,9 +23,9 @@ use Rattle.session.specs.Why.{whyNow, explainedOf, askedOf, askedFrom, s
 use Rattle.session.proofs.Runs.{accepted-runs, refused-stays}
 
 -- the limit that a step names is that of the desk at the sample's end: the brake's step changes no limit
-named-after : (s : Settings) (top : ℕ) (x : Input) (d : Desk) → stepOf s top x d .named ≡ reasonOf s top (stepOf s top x d .desk)
+named-after : (card : Card) (top : ℕ) (x : Input) (d : Desk) → stepOf card top x d .named ≡ reasonOf (card .settings) top (stepOf card top x d .desk)
 unfolding stepOf judgedOf braked supervisedOf reasonOf
-named-after s top x d = refl
+named-after card top x d = refl
 
 module _ (s : Session) (x : Sample) where
   pub asked-accepted : accepted s x ≡ true → askedFrom s (stepped s (carried s x)) ≡ askedOf s x

@@ -1,16 +1,18 @@
 -- Each promise determines its result: any two results that it allows are equal.
 use Prim.Native.Nat.{ℕ}
 use native.Mathlib.Omega.{arith}
-use mathlib.Core.Path.{_≡_, sym, ap, _∙_}
+use mathlib.Core.Path.{_≡_, refl, sym, ap, _∙_}
 use Rattle.leaf.specs.Answers.{Answer, given, refusalOf}
 use Rattle.leaf.specs.declared.Refusal.{Refusal}
 use Rattle.leaf.specs.declared.Refusal.the-variants.{Number, At}
-use Rattle.card.specs.declared.Settings.{Settings}
+use Rattle.card.specs.declared.Card.{Card}
+use Rattle.session.specs.declared.Judged.{Judged}
+use Rattle.session.specs.declared.Judged.the-variants as judged
 use Rattle.session.specs.declared.Opened.{Opened}
 use Rattle.session.specs.declared.Opened.the-variants as opened
 use Rattle.session.specs.declared.Outcome.{Outcome}
 use Rattle.session.specs.declared.Outcome.the-variants as outcome
-use Rattle.session.specs.Session.{openedOf, openSession, outcomeOf}
+use Rattle.session.specs.Session.{judgedOf, judgeCard, openedOf, openSession, outcomeOf}
 
 -- ---- two results that are the same on paper are the same
 
@@ -36,7 +38,16 @@ outcome-one (outcome.Answered s) (outcome.Refused r) h = absurd (never-refused s
 outcome-one (outcome.Refused r) (outcome.Answered t) h = absurd (never-refused t r (sym h))
 outcome-one (outcome.Refused r) (outcome.Refused t) h = ap outcome.Refused (refusal-one r t h)
 
--- ---- the promise of opening; that of a sample is an equation of its result
+pub judged-one : (a b : Judged) → judgedOf a ≡ judgedOf b → a ≡ b
+judged-one judged.Fine judged.Fine h = refl
+judged-one judged.Fine (judged.Refused r) h = absurd (never-refused tt r h)
+judged-one (judged.Refused r) judged.Fine h = absurd (never-refused tt r (sym h))
+judged-one (judged.Refused r) (judged.Refused t) h = ap judged.Refused (refusal-one r t h)
 
-pub open-determined : (settings : Settings) (train : ℕ) (a b : Opened) → openedOf a ≡ openSession settings train → openedOf b ≡ openSession settings train → a ≡ b
-open-determined settings train a b pa pb = opened-one a b (pa ∙ sym pb)
+-- ---- the promises of judging a card and of opening; that of a sample is an equation of its result
+
+pub judge-determined : (card : Card) (a b : Judged) → judgedOf a ≡ judgeCard card → judgedOf b ≡ judgeCard card → a ≡ b
+judge-determined card a b pa pb = judged-one a b (pa ∙ sym pb)
+
+pub open-determined : (card : Card) (train : ℕ) (a b : Opened) → openedOf a ≡ openSession card train → openedOf b ≡ openSession card train → a ≡ b
+open-determined card train a b pa pb = opened-one a b (pa ∙ sym pb)

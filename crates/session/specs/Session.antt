@@ -8,7 +8,8 @@ use Rattle.leaf.specs.Numbers.{codeTop, buttonsTop}
 use Rattle.leaf.specs.Checks.{Check, firstBad}
 use Rattle.leaf.specs.Answers.{Answer, given, refused, refusedAt, isGiven, refusalOf}
 use Rattle.leaf.specs.declared.Refusal.the-variants.{Number}
-use Rattle.card.specs.declared.Settings.{Settings}
+use Rattle.card.specs.declared.Card.{Card}
+use Rattle.card.specs.Card.{known}
 use Rattle.card.specs.Ranges.{checkSettings}
 use Rattle.desk.specs.declared.state.Desk.{Desk}
 use Rattle.desk.specs.Brake.{standstill}
@@ -22,6 +23,8 @@ use Rattle.step.specs.Step.{stepOf}
 use Rattle.session.specs.Types.{typeSpeed, typeAllowed}
 use Rattle.session.specs.declared.Sample.{Sample}
 use Rattle.session.specs.declared.Session.{Session}
+use Rattle.session.specs.declared.Judged.{Judged}
+use Rattle.session.specs.declared.Judged.the-variants as judged
 use Rattle.session.specs.declared.Opened.{Opened}
 use Rattle.session.specs.declared.Opened.the-variants as opened
 use Rattle.session.specs.declared.Outcome.{Outcome}
@@ -30,46 +33,53 @@ use Rattle.session.specs.declared.Sampled.{Sampled}
 
 -- ---- a session
 
--- "It opens in CONV with the start row as main (age 1 in the first sample), last code 0."; 02 b: "a newly opened session counts as standing"
-abbrev pub freshSession : Settings → ℕ → Session
-freshSession settings train = record { settings = settings; train = train; desk = freshDesk }
+-- "It opens in CONV with the start row as main (age 1 in the first sample), last code 0."; 02 b: "a newly opened session counts as standing";
+-- 02 g: "The session holds the version" (g5), beside the settings: a card has both
+abbrev pub freshSession : Card → ℕ → Session
+freshSession card train = record { card = card; train = train; desk = freshDesk }
 
 -- ---- a session with one member changed, all else as it was
 
-abbrev pub withSettings : Settings → Session → Session
-withSettings settings s = record { settings = settings; train = s .train; desk = s .desk }
+abbrev pub withCard : Card → Session → Session
+withCard card s = record { card = card; train = s .train; desk = s .desk }
 
 abbrev pub withDesk : Desk → Session → Session
-withDesk desk s = record { settings = s .settings; train = s .train; desk = desk }
+withDesk desk s = record { card = s .card; train = s .train; desk = desk }
 
--- ---- opening: "opening 5, 7"
+-- ---- opening: document 01's "opening 5, 7" gives way to 02 g: "the opening now takes the version, and judges version and settings as the writer
+-- does (2, then 5)": "2, 5, 7" (g4)
 
 -- what each case of opening's answer is on paper
 abbrev pub openedOf : Opened → Answer Session
 openedOf (opened.Ready s) = given s
 openedOf (opened.Refused r) = refusalOf r
 
--- "opening takes no version": settings are judged as beside version 2
-abbrev pub openingVersion : ℕ
-openingVersion = 2
+-- what each case of a card's judgement is on paper
+abbrev pub judgedOf : Judged → Answer Unit
+judgedOf judged.Fine = given tt
+judgedOf (judged.Refused why) = refusalOf why
 
--- the settings judged, then the train type
-abbrev pub openedAfter : Answer Unit → Settings → ℕ → Answer Session
-openedAfter (given u) settings train = pick (typeAllowed train (settings .vmax)) (given (freshSession settings train)) (refused 7)
-openedAfter (refused n) settings train = refused n
-openedAfter (refusedAt n place) settings train = refusedAt n place
+-- the version judged, then the settings beside it
+unfoldable pub judgeCard : Card → Answer Unit
+judgeCard card = pick (known (card .version)) (checkSettings (card .version) (card .settings)) (refused 2)
 
-unfoldable pub openSession : Settings → ℕ → Answer Session
-openSession settings train = openedAfter (checkSettings openingVersion settings) settings train
+-- then the train type
+abbrev pub openedAfter : Answer Unit → Card → ℕ → Answer Session
+openedAfter (given u) card train = pick (typeAllowed train (card .settings .vmax)) (given (freshSession card train)) (refused 7)
+openedAfter (refused n) card train = refused n
+openedAfter (refusedAt n place) card train = refusedAt n place
+
+unfoldable pub openSession : Card → ℕ → Answer Session
+openSession card train = openedAfter (judgeCard card) card train
 
 -- ---- the ranges: those of the desk, "and settings in range, and a train type that 7 allows"
 
--- settings are judged as opening judges them
-unfoldable pub settingsInside : Settings → Bool
-settingsInside settings = isGiven (checkSettings openingVersion settings)
+-- 02 g: "8 judges settings beside it as the opening does" (g5), and the version
+unfoldable pub cardInside : Card → Bool
+cardInside card = isGiven (judgeCard card)
 
 unfoldable pub insideOf : Session → Bool
-insideOf s = settingsInside (s .settings) && typeAllowed (s .train) (s .settings .vmax) && deskInside (s .desk)
+insideOf s = cardInside (s .card) && typeAllowed (s .train) (s .card .settings .vmax) && deskInside (s .desk)
 
 -- ---- a sample: "sample 8, 9, 10, 11"
 
@@ -83,7 +93,7 @@ abbrev pub sampleChecks : Session → Sample → List Check
 sampleChecks s x =
     (8, insideOf s)
     ∷ (9, leb (x .beacon) codeTop && leb (x .buttons) buttonsTop && leb 1 (x .mode) && leb (x .mode) 2)
-    ∷ (10, leb (x .pulses * s .settings .tick) 100000)
+    ∷ (10, leb (x .pulses * s .card .settings .tick) 100000)
     ∷ (11, sameMode (s .desk .bts) (inBts (x .mode)) || standstill (x .pulses) (s .desk .brake))
     ∷ []
 
@@ -95,7 +105,7 @@ refusedBy s x = firstBad 0 (sampleChecks s x)
 abbrev pub carried : Session → Sample → Input
 carried s x =
     record {
-      m = x .pulses * s .settings .tick;
+      m = x .pulses * s .card .settings .tick;
       pulses = x .pulses;
       beacon = x .beacon;
       buttons = x .buttons;
@@ -108,7 +118,7 @@ sampledAs s e = record { session = withDesk (e .desk) s; outcome = outcome.Answe
 
 -- the step of the session's desk, T being that of its train type
 abbrev pub stepped : Session → Input → Stepped
-stepped s x = stepOf (s .settings) (typeSpeed (s .train) * 100) x (s .desk)
+stepped s x = stepOf (s .card) (typeSpeed (s .train) * 100) x (s .desk)
 
 -- a sample that is run
 unfoldable pub ranOf : Session → Sample → Sampled

@@ -25,7 +25,7 @@ whyFrom named brake = record { reason = named .reason; speed = named .speed; age
 
 -- the standing limit that sets S in a session, with T of its train type
 abbrev pub namedIn : Session → Standing
-namedIn s = reasonOf (s .settings) (typeSpeed (s .train) * 100) (s .desk)
+namedIn s = reasonOf (s .card .settings) (typeSpeed (s .train) * 100) (s .desk)
 
 unfoldable pub whyNow : Session → Why
 whyNow s = whyFrom (namedIn s) (s .desk .brake)

@@ -1,12 +1,13 @@
-// A session: settings, train type and desk. Opening makes one; each sample hands it in and hands it back with the answer, and where it is
+// A session: card, train type and desk. Opening makes one; each sample hands it in and hands it back with the answer, and where it is
 // asked with the reason of the answer's S.
 //
 // No function has a `requires`. A session, or a sample, that document 01 refuses is refused by its number, and the session
 // handed in comes back unchanged.
+use card::Card;
 use card::Checked;
-use card::Settings;
 use card::check;
 use card::is_in_range;
+use card::is_known;
 use desk::brake::Brake;
 use desk::ranges::desk_inside;
 use desk::state::Desk;
@@ -23,11 +24,8 @@ use step::step;
 ghost use mathlib.Core.Path.{_≡_};
 ghost use Prim.Native.Nat.{_*_};
 ghost use Rattle.session.specs.Types.{typeSpeed, typeAllowed};
-ghost use Rattle.session.specs.Session.{freshSession, openedOf, openSession, insideOf, refusedBy, carried, stepped, sampleOf, outcomeOf, answerTo};
+ghost use Rattle.session.specs.Session.{freshSession, openedOf, judgedOf, judgeCard, openSession, cardInside, insideOf, refusedBy, carried, stepped, sampleOf, outcomeOf, answerTo};
 ghost use Rattle.session.specs.Why.{whyFrom, whyNow, askedFrom, askedOf, sampledFrom};
-
-// Opening takes no version: settings are judged as beside this one.
-pub const OPENING_VERSION: u8 = 2;
 
 // What comes every 100 ms: odometer pulses, the beacon's code, the buttons newly pressed, the mode.
 pub struct Sample {
@@ -37,8 +35,9 @@ pub struct Sample {
     pub mode: u8,
 }
 
+// The card is what was handed in at the opening, its version and settings.
 pub struct Session {
-    pub settings: Settings,
+    pub card: Card,
     pub train: u8,
     pub desk: Desk,
 }
@@ -145,29 +144,60 @@ pub fn type_allowed(train: u8, vmax: u8) -> bool
     (1 <= train) & (train <= 8) & (type_speed(train) <= vmax)
 }
 
+// What a card is judged as, before there is a train type.
+pub enum Judged {
+    Fine,
+    Refused(Refusal),
+}
+
+// Is the card's version known, and are the settings beside it in range: refusal 2, then 5 with its place, as the writer gives them.
+pub fn judge(card: Card) -> Judged
+    ensures { λ r. ⌜ judgedOf r ≡ judgeCard card ⌝ }
+{
+    let settings = card.settings;
+    let known = is_known(card.version);
+    if !known {
+        return Judged::Refused(Refusal::Number(2));
+    }
+    let checked = check(card.version, settings);
+    match checked {
+        Checked::FaultAt(place) => Judged::Refused(Refusal::At(5, place)),
+        Checked::InRange => Judged::Fine,
+    }
+}
+
+// Would opening judge it so.
+fn card_inside(card: Card) -> bool
+    ensures { λ r. ⌜ r ≡ cardInside card ⌝ }
+{
+    let settings = card.settings;
+    is_known(card.version) & is_in_range(card.version, settings)
+}
+
 impl Session {
     // A fresh session: in CONV, with the start row as main.
-    fn fresh(settings: Settings, train: u8) -> Session
-        ensures { λ r. ⌜ r ≡ freshSession settings train ⌝ }
+    fn fresh(card: Card, train: u8) -> Session
+        ensures { λ r. ⌜ r ≡ freshSession card train ⌝ }
     {
         Session {
-            settings: settings,
+            card: card,
             train: train,
             desk: Desk::fresh(),
         }
     }
 
-    // Opens a session from settings and train type: refusal 5 with its place, then 7.
-    pub fn open(settings: Settings, train: u8) -> Opened
-        ensures { λ r. ⌜ openedOf r ≡ openSession settings train ⌝ }
+    // Opens a session from a card and a train type: refusal 2, then 5 with its place, then 7.
+    pub fn open(card: Card, train: u8) -> Opened
+        ensures { λ r. ⌜ openedOf r ≡ openSession card train ⌝ }
     {
-        let checked = check(OPENING_VERSION, settings);
+        let settings = card.settings;
+        let judged = judge(card);
         let allowed = type_allowed(train, settings.vmax);
-        match checked {
-            Checked::FaultAt(place) => Opened::Refused(Refusal::At(5, place)),
-            Checked::InRange => {
+        match judged {
+            Judged::Refused(why) => Opened::Refused(why),
+            Judged::Fine => {
                 if allowed {
-                    Opened::Ready(Session::fresh(settings, train))
+                    Opened::Ready(Session::fresh(card, train))
                 } else {
                     Opened::Refused(Refusal::Number(7))
                 }
@@ -179,18 +209,17 @@ impl Session {
     pub fn is_inside(self) -> bool
         ensures { λ r. ⌜ r ≡ insideOf self ⌝ }
     {
-        let settings = self.settings;
+        let card = self.card;
+        let settings = card.settings;
         let desk = self.desk;
-        is_in_range(OPENING_VERSION, settings)
-            & type_allowed(self.train, settings.vmax)
-            & desk_inside(desk)
+        card_inside(card) & type_allowed(self.train, settings.vmax) & desk_inside(desk)
     }
 
     // The number that refuses the sample, 0 where it is accepted.
     fn refusal(self, x: Sample) -> u8
         ensures { λ r. ⌜ r ≡ refusedBy self x ⌝ }
     {
-        let settings = self.settings;
+        let settings = self.card.settings;
         let desk = self.desk;
         let inside = self.is_inside();
         let m = leaf::travel(x.pulses, settings.tick);
@@ -211,7 +240,7 @@ impl Session {
     fn carry(self, x: Sample) -> Input
         ensures { λ r. ⌜ r ≡ carried self x ⌝ }
     {
-        let tick = self.settings.tick;
+        let tick = self.card.settings.tick;
         Input {
             m: leaf::travel(x.pulses, tick),
             pulses: x.pulses,
@@ -225,17 +254,17 @@ impl Session {
     fn run(self, x: Input) -> Asked
         ensures { λ r. ⌜ r ≡ askedFrom self (stepped self x) ⌝ }
     {
-        let settings = self.settings;
+        let card = self.card;
         let desk = self.desk;
         let top = leaf::hundredths(type_speed(self.train));
-        let stepped = step(desk, settings, top, x);
+        let stepped = step(desk, card, top, x);
         let next = stepped.desk;
         let answer = stepped.answer;
         let named = stepped.named;
         let brake = next.brake;
         Asked {
             session: Session {
-                settings: settings,
+                card: card,
                 train: self.train,
                 desk: next,
             },
@@ -277,7 +306,7 @@ impl Session {
     pub fn why_now(self) -> Why
         ensures { λ r. ⌜ r ≡ whyNow self ⌝ }
     {
-        let settings = self.settings;
+        let settings = self.card.settings;
         let desk = self.desk;
         let brake = desk.brake;
         let top = leaf::hundredths(type_speed(self.train));
