@@ -6,7 +6,7 @@ use mathlib.Core.Path.{_≡_, sym, _∙_}
 use Rattle.leaf.specs.Answers.{given, refusalOf}
 use Rattle.leaf.specs.declared.Refusal.{Refusal}
 use Rattle.leaf.specs.declared.Refusal.the-variants.{Number, At}
-use Rattle.card.specs.declared.Settings.{Settings}
+use Rattle.card.specs.declared.Card.{Card}
 use Rattle.receiver.specs.Receiver.{startedOf, startReceiver}
 use Rattle.receiver.specs.declared.Receiver.{Receiver}
 use Rattle.receiver.specs.declared.Started.{Started}
@@ -25,5 +25,5 @@ started-one (Refused (Number n)) (Refused (At m q)) h = cc
 started-one (Refused (At n p)) (Refused (Number m)) h = cc
 started-one (Refused (At n p)) (Refused (At m q)) h = cc
 
-pub start-determined : (settings : Settings) (a b : Started) → startedOf a ≡ startReceiver settings → startedOf b ≡ startReceiver settings → a ≡ b
-start-determined settings a b pa pb = started-one a b (pa ∙ sym pb)
+pub start-determined : (card : Card) (a b : Started) → startedOf a ≡ startReceiver card → startedOf b ≡ startReceiver card → a ≡ b
+start-determined card a b pa pb = started-one a b (pa ∙ sym pb)

@@ -8,7 +8,7 @@ use lib.Dec.{eqb, leb, lit<}
 use borrow.Author.Tests.{le-leb, leb-true, eq-eqb, eqb-true}
 use Rattle.leaf.specs.Choosing.{and-split}
 use Rattle.leaf.specs.Answers.{given, refused}
-use Rattle.card.specs.declared.Settings.{Settings}
+use Rattle.card.specs.declared.Card.{Card}
 use Rattle.session.specs.declared.Session.{Session}
 use Rattle.session.specs.Session.{freshSession, openSession}
 use Rattle.receiver.specs.Receiver.{withStatus, withStated, countedIn, noPart, freshReceiver, quietly, refusedWith, lengthTop, lengthFits, headFits, statedWith, openedWith, headTakes, takeOf, betweenSamples}
@@ -50,20 +50,20 @@ module _ (r : Receiver) (going : r .status ≡ Open) where
   head-unfit b h f = rw (head-takes r b going h, f)
 
   -- and the last opens the session
-  pub head-train : (b : ℕ) → r .taken ≡ 5 → takeOf r b ≡ openedWith r (openSession (r .session .settings) b)
+  pub head-train : (b : ℕ) → r .taken ≡ 5 → takeOf r b ≡ openedWith r (openSession (r .session .card) b)
   unfolding headTakes headFits
   head-train b e = rw (head-takes r b going (omega arith), e)
 
 -- ---- the whole head
 
-module _ (settings : Settings) where
+module _ (card : Card) where
   -- so far in the head
   abbrev pub begun : ℕ → ℕ → Receiver
-  begun stated taken = record { session = freshSession settings 0; stated = stated; taken = taken; part = noPart; status = Open }
+  begun stated taken = record { session = freshSession card 0; stated = stated; taken = taken; part = noPart; status = Open }
 
   -- the length and the version
   five : (h l : ℕ) (rest : List ℕ) → lengthFits (h * 256 + l) ≡ true
-      → both (freshReceiver settings) (0 ∷ 0 ∷ h ∷ l ∷ 1 ∷ rest) ≡ both (begun (h * 256 + l) 5) rest
+      → both (freshReceiver card) (0 ∷ 0 ∷ h ∷ l ∷ 1 ∷ rest) ≡ both (begun (h * 256 + l) 5) rest
   unfolding headFits statedWith
   five h l rest f =
       let top : h * 256 + l ≤ lengthTop = length-met (h * 256 + l) f .1 in
@@ -76,15 +76,15 @@ module _ (settings : Settings) where
       ∙ silent (begun (h * 256 + l) 4) (begun (h * 256 + l) 5) 1 rest (head-kept (begun (h * 256 + l) 4) refl 1 (lit< tt) refl)
 
   -- a good head opens the session
-  pub head-opens : (h l train : ℕ) (s : Session) (rest : List ℕ) → lengthFits (h * 256 + l) ≡ true → openSession settings train ≡ given s
-      → both (freshReceiver settings) (0 ∷ 0 ∷ h ∷ l ∷ 1 ∷ train ∷ rest) ≡ both (betweenSamples s (h * 256 + l) 6) rest
+  pub head-opens : (h l train : ℕ) (s : Session) (rest : List ℕ) → lengthFits (h * 256 + l) ≡ true → openSession card train ≡ given s
+      → both (freshReceiver card) (0 ∷ 0 ∷ h ∷ l ∷ 1 ∷ train ∷ rest) ≡ both (betweenSamples s (h * 256 + l) 6) rest
   unfolding openedWith
   head-opens h l train s rest f o =
       five h l (train ∷ rest) f ∙ silent (begun (h * 256 + l) 5) (betweenSamples s (h * 256 + l) 6) train rest (head-train (begun (h * 256 + l) 5) refl train refl ∙ rw o)
 
   -- or is refused with what refuses the opening
   pub head-refuses : (h l train n : ℕ) (rest : List ℕ) → lengthFits (h * 256 + l) ≡ true
-      → openedWith (begun (h * 256 + l) 5) (openSession settings train) ≡ refusedWith n (begun (h * 256 + l) 5)
-      → both (freshReceiver settings) (0 ∷ 0 ∷ h ∷ l ∷ 1 ∷ train ∷ rest) ≡ (withStatus (Refused n) (begun (h * 256 + l) 5), refused n ∷ [])
+      → openedWith (begun (h * 256 + l) 5) (openSession card train) ≡ refusedWith n (begun (h * 256 + l) 5)
+      → both (freshReceiver card) (0 ∷ 0 ∷ h ∷ l ∷ 1 ∷ train ∷ rest) ≡ (withStatus (Refused n) (begun (h * 256 + l) 5), refused n ∷ [])
   head-refuses h l train n rest f o =
       five h l (train ∷ rest) f ∙ fault (begun (h * 256 + l) 5) n train rest (head-train (begun (h * 256 + l) 5) refl train refl ∙ o)

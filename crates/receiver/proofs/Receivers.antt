@@ -7,13 +7,19 @@ use borrow.Author.Tests.{lt-ltb, le-ltb}
 use Rattle.leaf.specs.Answers.{Answer, refusalOf}
 use Rattle.leaf.specs.declared.Refusal.{Refusal}
 use Rattle.leaf.specs.declared.Refusal.the-variants.{Number, At}
+use Rattle.card.specs.declared.Card.{Card}
 use Rattle.step.specs.declared.Answer.{Answer as Told}
 use Rattle.rides.specs.Ride.{numberOf, shownOf}
-use Rattle.receiver.specs.Receiver.{withStatus, quietly, refusedWith, openedWith, headTakes, sampleTakes, openTakes, takeAs, takeOf, wholeIn, endAs, endOf, receivedAll, shownAll, receivedPieces, shownPieces}
+use Rattle.receiver.specs.Receiver.{withStatus, startedAfter, quietly, refusedWith, openedWith, headTakes, sampleTakes, openTakes, takeAs, takeOf, wholeIn, endAs, endOf, receivedAll, shownAll, receivedPieces, shownPieces}
 use Rattle.receiver.specs.declared.Receiver.{Receiver}
 use Rattle.receiver.specs.declared.Status.the-variants.{Open, Ended, Refused}
 
 -- ---- the code's cases
+
+-- a card that is refused starts no receiver
+pub start-refused : (card : Card) (why : Refusal) → startedAfter (refusalOf why) card ≡ refusalOf why
+start-refused card (Number n) = refl
+start-refused card (At n place) = refl
 
 -- a refused opening shows its number, without the place
 pub opened-refused : (r : Receiver) (why : Refusal) → openedWith r (refusalOf why) ≡ refusedWith (numberOf why) r

@@ -56,8 +56,8 @@ module _ (r : Receiver) (was : r .status ≡ Open) where
   head-step b head = cases (headFits (r .stated) (r .taken) b) (eqb (r .taken) 5)
     where
       cases : (fits last : Bool)
-          → Step r (pick fits (pick last (openedWith r (openSession (r .session .settings) b)) (quietly (countedIn (withStated (statedWith (r .stated) (r .taken) b) r)))) (refusedWith 14 r))
-      cases true true = opened-step (openSession (r .session .settings) b)
+          → Step r (pick fits (pick last (openedWith r (openSession (r .session .card) b)) (quietly (countedIn (withStated (statedWith (r .stated) (r .taken) b) r)))) (refusedWith 14 r))
+      cases true true = opened-step (openSession (r .session .card) b)
       cases true false = inl (record { was = was; going = was; counted = refl; shows = inl refl; stated = λ h. absurd (omega arith) })
       cases false last = refused-step 14 r
 

@@ -10,12 +10,11 @@ use lib.Dec.{leb, ltb, eqb}
 use Rattle.leaf.specs.Choosing.{pick}
 use Rattle.leaf.specs.Numbers.{codeTop, buttonsTop}
 use Rattle.leaf.specs.Answers.{Answer, given, refused, refusedAt, refusalOf}
-use Rattle.card.specs.declared.Settings.{Settings}
-use Rattle.card.specs.Ranges.{checkSettings}
+use Rattle.card.specs.declared.Card.{Card}
 use Rattle.step.specs.declared.Answer.{Answer as Told}
 use Rattle.session.specs.declared.Sample.{Sample}
 use Rattle.session.specs.declared.Session.{Session}
-use Rattle.session.specs.Session.{freshSession, openingVersion, openSession}
+use Rattle.session.specs.Session.{freshSession, judgeCard, openSession}
 use Rattle.rides.specs.Recording.{mostSamples, placeOf}
 use Rattle.rides.specs.Ride.{freshRide, turnOf, shownOf, turnShows}
 use Rattle.rides.specs.declared.ride.Shown.the-variants as shown
@@ -47,23 +46,23 @@ withStatus now r = record { session = r .session; stated = r .stated; taken = r 
 abbrev pub noPart : Sample
 noPart = record { pulses = 0; beacon = 0; buttons = 0; mode = 0 }
 
--- before the first byte: of the session the settings alone, since the train type is still to come
-abbrev pub freshReceiver : Settings → Receiver
-freshReceiver settings = record { session = freshSession settings 0; stated = 0; taken = 0; part = noPart; status = status.Open }
+-- before the first byte: of the session the card alone, since the train type is still to come
+abbrev pub freshReceiver : Card → Receiver
+freshReceiver card = record { session = freshSession card 0; stated = 0; taken = 0; part = noPart; status = status.Open }
 
 -- what each case of a start's answer is on paper
 abbrev pub startedOf : Started → Answer Receiver
 startedOf (started.Ready r) = given r
 startedOf (started.Refused why) = refusalOf why
 
--- the settings are judged as the opening judges them: 5 with its place
-abbrev pub startedAfter : Answer Unit → Settings → Answer Receiver
-startedAfter (given u) settings = given (freshReceiver settings)
-startedAfter (refused n) settings = refused n
-startedAfter (refusedAt n place) settings = refusedAt n place
+-- the card is judged as the opening judges it: "5; from g 2, 5" (a11), 5 with its place
+abbrev pub startedAfter : Answer Unit → Card → Answer Receiver
+startedAfter (given u) card = given (freshReceiver card)
+startedAfter (refused n) card = refused n
+startedAfter (refusedAt n place) card = refusedAt n place
 
-unfoldable pub startReceiver : Settings → Answer Receiver
-startReceiver settings = startedAfter (checkSettings openingVersion settings) settings
+unfoldable pub startReceiver : Card → Answer Receiver
+startReceiver card = startedAfter (judgeCard card) card
 
 -- ---- what becomes of a byte, or of an end
 
@@ -119,7 +118,7 @@ openedWith r (refusedAt n place) = refusedWith n r
 unfoldable pub headTakes : Receiver → ℕ → Received
 headTakes r b =
     pick (headFits (r .stated) (r .taken) b)
-    (pick (eqb (r .taken) 5) (openedWith r (openSession (r .session .settings) b)) (quietly (countedIn (withStated (statedWith (r .stated) (r .taken) b) r))))
+    (pick (eqb (r .taken) 5) (openedWith r (openSession (r .session .card) b)) (quietly (countedIn (withStated (statedWith (r .stated) (r .taken) b) r))))
     (refusedWith 14 r)
 
 -- ---- the samples: "in a sample 0–1 pulses, 2 beacon, 3–4 buttons, 5 mode" (a1)

@@ -3,9 +3,7 @@
 //
 // No public function has a `requires`: each is total on every receiver handed in, and ensures that its result is what the
 // definition of specs/ that it names gives.
-use card::Checked;
-use card::Settings;
-use card::check;
+use card::Card;
 use desk::state::Desk;
 use leaf::BUTTONS_TOP;
 use leaf::CODE_TOP;
@@ -15,10 +13,11 @@ use rides::ride::Ride;
 use rides::ride::Shown;
 use rides::ride::Turned;
 use rides::ride::number_of;
-use session::OPENING_VERSION;
+use session::Judged;
 use session::Opened;
 use session::Sample;
 use session::Session;
+use session::judge;
 ghost use mathlib.Core.Path.{_≡_};
 ghost use Prim.Native.Nat.{_<_};
 ghost use Rattle.receiver.specs.Receiver.{withPart, withSession, withStatus, noPart, freshReceiver, startedOf, startReceiver, quietly, refusedWith, countedIn, highIn, lowIn, lengthFits, headFits, statedWith, openedWith, headTakes, partFits, partWith, completedBy, sampleTakes, openTakes, takeOf, endAs, endOf};
@@ -36,7 +35,7 @@ pub enum Status {
 }
 
 pub struct Receiver {
-    // Before the train type is in, a session that is not opened yet: the settings, and train type 0.
+    // Before the train type is in, a session that is not opened yet: the card, and train type 0.
     pub session: Session,
     // The stated length, as far as its bytes are in.
     pub stated: u16,
@@ -166,12 +165,12 @@ fn part_with(mut x: Sample, place: u16, b: u8) -> Sample
 
 impl Receiver {
     // Before the first byte.
-    fn fresh(settings: Settings) -> Receiver
-        ensures { λ r. ⌜ r ≡ freshReceiver settings ⌝ }
+    fn fresh(card: Card) -> Receiver
+        ensures { λ r. ⌜ r ≡ freshReceiver card ⌝ }
     {
         Receiver {
             session: Session {
-                settings: settings,
+                card: card,
                 train: 0,
                 desk: Desk::fresh(),
             },
@@ -182,14 +181,14 @@ impl Receiver {
         }
     }
 
-    // Starts a receiver on these settings: refusal 5 with its place, before any byte.
-    pub fn start(settings: Settings) -> Started
-        ensures { λ r. ⌜ startedOf r ≡ startReceiver settings ⌝ }
+    // Starts a receiver on this card: refusal 2, then 5 with its place, before any byte.
+    pub fn start(card: Card) -> Started
+        ensures { λ r. ⌜ startedOf r ≡ startReceiver card ⌝ }
     {
-        let checked = check(OPENING_VERSION, settings);
-        match checked {
-            Checked::FaultAt(place) => Started::Refused(Refusal::At(5, place)),
-            Checked::InRange => Started::Ready(Receiver::fresh(settings)),
+        let judged = judge(card);
+        match judged {
+            Judged::Refused(why) => Started::Refused(why),
+            Judged::Fine => Started::Ready(Receiver::fresh(card)),
         }
     }
 
@@ -250,10 +249,10 @@ impl Receiver {
     // The byte is the train type: a session is opened with it.
     fn take_train(self, train: u8) -> Received
         requires { ⌜ self .taken < 65535 ⌝ }
-        ensures { λ r. ⌜ r ≡ openedWith self (openSession (self .session .settings) train) ⌝ }
+        ensures { λ r. ⌜ r ≡ openedWith self (openSession (self .session .card) train) ⌝ }
     {
-        let settings = self.session.settings;
-        let opened = Session::open(settings, train);
+        let card = self.session.card;
+        let opened = Session::open(card, train);
         match opened {
             Opened::Ready(session) => {
                 let held = self.part;

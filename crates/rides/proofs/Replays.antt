@@ -135,12 +135,13 @@ from-place s recording place quota = cases (leb place (samplesIn recording)) ref
     cases true e =
         let h : place ≤ samplesIn recording = leb-true _ _ e in
         let same : min place (samplesIn recording) ≡ place = omega arith in
-        rw same
+        ap (λ (p : ℕ). ranFrom s recording p (dueFrom recording p quota)) same
     cases false e =
         let h : samplesIn recording < place = leb-false _ _ e in
         let one : min quota (samplesIn recording - min place (samplesIn recording)) ≡ 0 = omega arith in
         let other : min quota (samplesIn recording - place) ≡ 0 = omega arith in
-        rw (one, other) (none-run s recording _ _)
+        ap (ranFrom s recording (min place (samplesIn recording))) one ∙ none-run s recording (min place (samplesIn recording)) place
+        ∙ sym (ap (ranFrom s recording place) other)
 
 -- a recording that is not refused has no more samples than a good one can have
 pub few-samples : (recording : List ℕ) (s : Session) → unrunBy recording s ≡ 0 → samplesIn recording ≤ mostSamples

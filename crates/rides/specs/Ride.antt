@@ -6,7 +6,7 @@ use Rattle.leaf.specs.Choosing.{pick}
 use Rattle.leaf.specs.Answers.{Answer, given, refused, refusedAt}
 use Rattle.leaf.specs.declared.Refusal.{Refusal}
 use Rattle.leaf.specs.declared.Refusal.the-variants.{Number, At}
-use Rattle.card.specs.declared.Settings.{Settings}
+use Rattle.card.specs.declared.Card.{Card}
 use Rattle.step.specs.declared.Answer.{Answer as Told}
 use Rattle.session.specs.declared.Sample.{Sample}
 use Rattle.session.specs.declared.Session.{Session}
@@ -19,9 +19,9 @@ use Rattle.rides.specs.declared.ride.Shown.{Shown}
 use Rattle.rides.specs.declared.ride.Shown.the-variants as shown
 use Rattle.rides.specs.declared.ride.Turned.{Turned}
 
--- "a ride 14, 7, its samples": the recording judged, then the session opened with its train type
-unfoldable pub startRide : Settings → List ℕ → Answer Session
-startRide settings recording = pick (goodRecording recording) (openSession settings (trainOf recording)) (refused 14)
+-- "a ride 14, 7, its samples": the recording judged, then the session opened with its train type; 02 g: the opening judges the card, "2, then 5"
+unfoldable pub startRide : Card → List ℕ → Answer Session
+startRide card recording = pick (goodRecording recording) (openSession card (trainOf recording)) (refused 14)
 
 -- a ride before its first sample
 abbrev pub freshRide : Session → Ride
@@ -95,5 +95,5 @@ shownFrom (given s) xs = given (shownBy (freshRide s) xs)
 shownFrom (refused n) xs = refused n
 shownFrom (refusedAt n place) xs = refusedAt n place
 
-unfoldable pub wholeRide : Settings → List ℕ → Answer (List (Answer Told))
-wholeRide settings recording = shownFrom (startRide settings recording) (samplesOf recording)
+unfoldable pub wholeRide : Card → List ℕ → Answer (List (Answer Told))
+wholeRide card recording = shownFrom (startRide card recording) (samplesOf recording)

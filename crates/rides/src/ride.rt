@@ -1,7 +1,7 @@
 // Running a ride: a session, and the samples of a recording one after the other, until one is refused.
 use crate::recording::is_good;
 use crate::recording::sample_at;
-use card::Settings;
+use card::Card;
 use leaf::Refusal;
 use leaf::byte_at;
 use session::Opened;
@@ -51,14 +51,14 @@ pub fn number_of(why: Refusal) -> u8
     }
 }
 
-// The session that a recording starts on these settings: 14, then what the opening refuses.
-pub fn start(settings: Settings, recording: &[u8]) -> Opened
-    ensures { λ r. ⌜ openedOf r ≡ startRide settings (now (recording .entry)) ⌝ }
+// The session that a recording starts on this card: 14, then what the opening refuses.
+pub fn start(card: Card, recording: &[u8]) -> Opened
+    ensures { λ r. ⌜ openedOf r ≡ startRide card (now (recording .entry)) ⌝ }
 {
     let good = is_good(recording);
     let train = byte_at(recording, 5);
     if good {
-        return Session::open(settings, train);
+        return Session::open(card, train);
     }
     Opened::Refused(Refusal::Number(14))
 }
