@@ -35,6 +35,10 @@ oldest : ageText reason.Limit 30000 ≡ ascii ", 3000.0 s old"
 unfolding ageText agedText numbers
 oldest = refl
 
+paired : ageText reason.Paired 10 ≡ ascii ", 1.0 s old"
+unfolding ageText agedText numbers
+paired = refl
+
 no-age : ageText reason.Bts 0 ≡ []
 unfolding ageText
 no-age = refl

@@ -19,7 +19,7 @@ use Rattle.why_lines.specs.Words.{mainText, crossingText, nameText, name
 
 abbrev pub names : List ℕ
 names =
-    ascii "no limit|vmax|T of the train type|BTS speed|no main limit|start|conditional clear|stop announcement|preannouncement|caution|before-stop|stop|stop zone|stop alongside|no crossing|protected crossing|unprotected crossing|limit"
+    ascii "no limit|vmax|T of the train type|BTS speed|no main limit|start|conditional clear|stop announcement|preannouncement|caution|before-stop|stop|stop zone|stop alongside|no crossing|protected crossing|unprotected crossing|limit|paired limit"
 
 main-named : (m : MainKind) → wordOf names (mainPlace m) ≡ mainText m
 unfolding wordOf
@@ -49,6 +49,7 @@ named reason.Main m c = main-named m
 named reason.Alongside m c = refl
 named reason.Crossing m c = crossing-named c
 named reason.Limit m c = refl
+named reason.Paired m c = refl
 
 pub named-in : (s : Session) → nameIn s ≡ wordOf names (placeIn s)
 unfolding nameIn placeIn
@@ -67,7 +68,7 @@ abbrev sought : ℕ → List ℕ → ℕ
 sought zero t = 0
 sought (suc k) t = pick (same t (wordOf names (suc k))) (suc k) (sought k t)
 
-main-sought : (m : MainKind) → sought 17 (mainText m) ≡ mainPlace m
+main-sought : (m : MainKind) → sought 18 (mainText m) ≡ mainPlace m
 unfolding wordOf
 main-sought main.Clear = refl
 main-sought main.Start = refl
@@ -79,13 +80,13 @@ main-sought main.BeforeStop = refl
 main-sought main.Stop = refl
 main-sought main.Zone = refl
 
-crossing-sought : (c : CrossingKind) → sought 17 (crossingText c) ≡ crossingPlace c
+crossing-sought : (c : CrossingKind) → sought 18 (crossingText c) ≡ crossingPlace c
 unfolding wordOf
 crossing-sought crossing.Absent = refl
 crossing-sought crossing.Protected = refl
 crossing-sought crossing.Unprotected = refl
 
-name-sought : (r : Reason) (m : MainKind) (c : CrossingKind) → sought 17 (nameText r m c) ≡ namePlace r m c
+name-sought : (r : Reason) (m : MainKind) (c : CrossingKind) → sought 18 (nameText r m c) ≡ namePlace r m c
 unfolding wordOf
 name-sought reason.None m c = refl
 name-sought reason.Vmax m c = refl
@@ -95,11 +96,12 @@ name-sought reason.Main m c = main-sought m
 name-sought reason.Alongside m c = refl
 name-sought reason.Crossing m c = crossing-sought c
 name-sought reason.Limit m c = refl
+name-sought reason.Paired m c = refl
 
-sought-in : (s : Session) → sought 17 (nameIn s) ≡ placeIn s
+sought-in : (s : Session) → sought 18 (nameIn s) ≡ placeIn s
 unfolding nameIn placeIn
 sought-in s = name-sought (whyNow s .reason) (s .desk .main .kind) (s .desk .beside .crossing .kind)
 
 -- so what is compared is the name
 pub same-name : (a b : Session) → (placeIn a ≡ placeIn b) ↔ (nameIn a ≡ nameIn b)
-same-name a b = (λ e. named-in a ∙ ap (wordOf names) e ∙ sym (named-in b), λ e. sym (sought-in a) ∙ ap (sought 17) e ∙ sought-in b)
+same-name a b = (λ e. named-in a ∙ ap (wordOf names) e ∙ sym (named-in b), λ e. sym (sought-in a) ∙ ap (sought 18) e ∙ sought-in b)

@@ -87,6 +87,7 @@ name-length reason.Main m c = main-length m
 name-length reason.Alongside m c = lit≤ tt
 name-length reason.Crossing m c = crossing-length c
 name-length reason.Limit m c = lit≤ tt
+name-length reason.Paired m c = lit≤ tt
 
 cause-length : (cause : ℕ) → length (causeText cause) ≤ 37
 unfolding wordOf

@@ -40,7 +40,8 @@ crossingText crossing.Absent = ascii "no crossing"
 crossingText crossing.Protected = ascii "protected crossing"
 crossingText crossing.Unprotected = ascii "unprotected crossing"
 
--- the limit's, beside this main control and this crossing; vmax and T stand always, so that some limit sets S
+-- the limit's, beside this main control and this crossing; vmax and T stand always, so that some limit sets S. 02 g: paired limits count as limit
+-- in f), "where of equal ones the single is named": the name tells which it is
 abbrev pub nameText : Reason → MainKind → CrossingKind → List ℕ
 nameText reason.None m c = ascii "no limit"
 nameText reason.Vmax m c = ascii "vmax"
@@ -50,6 +51,7 @@ nameText reason.Main m c = mainText m
 nameText reason.Alongside m c = ascii "stop alongside"
 nameText reason.Crossing m c = crossingText c
 nameText reason.Limit m c = ascii "limit"
+nameText reason.Paired m c = ascii "paired limit"
 
 -- the name in a session
 unfoldable pub nameIn : Session → List ℕ
@@ -82,6 +84,7 @@ namePlace reason.Main m c = mainPlace m
 namePlace reason.Alongside m c = 13
 namePlace reason.Crossing m c = crossingPlace c
 namePlace reason.Limit m c = 17
+namePlace reason.Paired m c = 18
 
 unfoldable pub placeIn : Session → ℕ
 placeIn s = namePlace (whyNow s .reason) (s .desk .main .kind) (s .desk .beside .crossing .kind)

@@ -86,6 +86,7 @@ fn name_place(reason: Reason, main: MainKind, crossing: CrossingKind) -> u32
         Reason::Alongside => 13,
         Reason::Crossing => crossing_place(crossing),
         Reason::Limit => 17,
+        Reason::Paired => 18,
     }
 }
 
@@ -109,7 +110,7 @@ fn put_name(out: &mut [u8], at: usize, session: Session) -> usize
     put_word(
         out,
         at,
-        b"no limit|vmax|T of the train type|BTS speed|no main limit|start|conditional clear|stop announcement|preannouncement|caution|before-stop|stop|stop zone|stop alongside|no crossing|protected crossing|unprotected crossing|limit",
+        b"no limit|vmax|T of the train type|BTS speed|no main limit|start|conditional clear|stop announcement|preannouncement|caution|before-stop|stop|stop zone|stop alongside|no crossing|protected crossing|unprotected crossing|limit|paired limit",
         place_in(session),
     )
 }
