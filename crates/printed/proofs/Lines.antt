@@ -9,8 +9,8 @@ use mathlib.Core.List.{List, [], _∷_, _++_, append-nil, append-assoc, flatten}
 use lib.Dec.{eqb}
 use lib.ListN.{length, take, length-append}
 use Rattle.leaf.specs.Answers.{Answer, given, refused, refusedAt}
-use Rattle.card.specs.declared.Settings.{Settings}
-use Rattle.card.specs.Reading.{readCard}
+use Rattle.card.specs.declared.Card.{Card}
+use Rattle.card.specs.Reading.{cardIn}
 use Rattle.step.specs.declared.Answer.{Answer as Told}
 use Rattle.session.specs.declared.Session.{Session}
 use Rattle.rides.specs.Recording.{samplesIn, sampleAt, samplesFrom, firstSamples, samplesOf}
@@ -135,14 +135,14 @@ started-lines columns recording (given s) = lines-shown (freshRide s) recording 
 started-lines columns recording (refused m) = rw append-nil
 started-lines columns recording (refusedAt m place) = rw append-nil
 
-card-lines : (columns : Columns) (recording : List ℕ) (a : Answer Settings)
+card-lines : (columns : Columns) (recording : List ℕ) (a : Answer Card)
     → cardText (Answers columns) recording (samplesIn recording) a ≡ flatten (rideLines columns (rideOn a recording))
 unfolding cardText wholeRide flatten
-card-lines columns recording (given settings) = started-lines columns recording (startRide settings recording)
+card-lines columns recording (given card) = started-lines columns recording (startRide card recording)
 card-lines columns recording (refused m) = rw append-nil
 card-lines columns recording (refusedAt m place) = rw append-nil
 
 -- the printed ride is the heading and a line for each that the ride on this card shows, in order
 pub printed-lines : (columns : Columns) (card recording : List ℕ) → printedRide columns card recording ≡ flatten (printedLines columns card recording)
 unfolding printedRide printedAs printedLines flatten
-printed-lines columns card recording = rw (card-lines columns recording (readCard card highest))
+printed-lines columns card recording = rw (card-lines columns recording (cardIn card highest))

@@ -8,8 +8,8 @@ use lib.Dec.{lit≤}
 use lib.ListN.{length, length-append}
 use Rattle.leaf.specs.Choosing.{pick}
 use Rattle.leaf.specs.Answers.{Answer, given, refused, refusedAt}
-use Rattle.card.specs.declared.Settings.{Settings}
-use Rattle.card.specs.Reading.{readCard}
+use Rattle.card.specs.declared.Card.{Card}
+use Rattle.card.specs.Reading.{cardIn}
 use Rattle.session.specs.declared.Session.{Session}
 use Rattle.session.specs.Session.{openSession}
 use Rattle.step.specs.declared.Answer.{Answer as Told}
@@ -24,7 +24,7 @@ use Rattle.rides.specs.declared.ride.Ride.{Ride}
 use Rattle.rides.specs.declared.ride.Shown.{Shown}
 use Rattle.rides.specs.declared.ride.Shown.the-variants as shown
 use Rattle.rides.proofs.Recordings.{good-met}
-use Rattle.printed.specs.Printed.{headingOf, refusedLine, columnsOf, shownText, reasonText, turnText, linesOf, startedText, cardText, printedAs}
+use Rattle.printed.specs.Printed.{headingOf, highest, refusedLine, columnsOf, shownText, reasonText, turnText, linesOf, startedText, cardText, printedAs}
 use Rattle.printed.specs.declared.Columns.{Columns}
 use Rattle.printed.specs.declared.Columns.the-variants.{Paper, Whole}
 use Rattle.printed.specs.declared.Form.{Form}
@@ -75,9 +75,9 @@ module _ (form : Form) where
       let before = lines-length r recording k in
       simp length-append (omega arith)
 
-  started-length : (settings : Settings) (recording : List ℕ) → length (startedText form recording (samplesIn recording) (startRide settings recording)) ≤ 660000
+  started-length : (card : Card) (recording : List ℕ) → length (startedText form recording (samplesIn recording) (startRide card recording)) ≤ 660000
   unfolding startRide startedText
-  started-length settings recording = cases (goodRecording recording) refl (openSession settings (trainOf recording))
+  started-length card recording = cases (goodRecording recording) refl (openSession card (trainOf recording))
     where
       opened : samplesIn recording ≤ 10000 → (a : Answer Session) → length (startedText form recording (samplesIn recording) a) ≤ 660000
       opened few (given s) = omega (arith, lines-length (freshRide s) recording (samplesIn recording))
@@ -88,9 +88,9 @@ module _ (form : Form) where
       cases true e a = opened (good-met recording e .few) a
       cases false e a = omega (arith, refused-length 14)
 
-  card-length : (recording : List ℕ) (read : Answer Settings) → length (cardText form recording (samplesIn recording) read) ≤ 660000
+  card-length : (recording : List ℕ) (read : Answer Card) → length (cardText form recording (samplesIn recording) read) ≤ 660000
   unfolding cardText
-  card-length recording (given settings) = started-length settings recording
+  card-length recording (given card) = started-length card recording
   card-length recording (refused n) = omega (arith, refused-length n)
   card-length recording (refusedAt n place) = omega (arith, refused-length n)
 
@@ -102,4 +102,4 @@ heading-length Reasons = lit≤ tt
 pub printed-length : (form : Form) (card recording : List ℕ) → length (printedAs form card recording) ≤ 660040
 unfolding printedAs
 printed-length form card recording =
-    simp length-append (omega (arith, heading-length form, card-length form recording (readCard card 2)))
+    simp length-append (omega (arith, heading-length form, card-length form recording (cardIn card highest)))

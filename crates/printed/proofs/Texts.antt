@@ -9,7 +9,7 @@ use Rattle.leaf.specs.Choosing.{pick}
 use Rattle.leaf.specs.Answers.{Answer, given, refused, refusedAt, refusalOf}
 use Rattle.leaf.specs.declared.Refusal.{Refusal}
 use Rattle.leaf.specs.declared.Refusal.the-variants.{Number, At}
-use Rattle.card.specs.declared.Settings.{Settings}
+use Rattle.card.specs.declared.Card.{Card}
 use Rattle.session.specs.Session.{openSession}
 use Rattle.rides.specs.Recording.{samplesIn, mostSamples, goodRecording, trainOf}
 use Rattle.rides.specs.Ride.{startRide, numberOf}
@@ -32,13 +32,13 @@ start-refused (Number n) recording = refl
 start-refused (At n place) recording = refl
 
 -- a recording with more samples than a good one can have is refused before its first
-pub capped : (form : Form) (recording : List ℕ) (read : Answer Settings) → cardText form recording (min (samplesIn recording) mostSamples) read ≡ cardText form recording (samplesIn recording) read
+pub capped : (form : Form) (recording : List ℕ) (read : Answer Card) → cardText form recording (min (samplesIn recording) mostSamples) read ≡ cardText form recording (samplesIn recording) read
 unfolding cardText startRide startedText
-capped form recording (given settings) = cases (goodRecording recording) refl
+capped form recording (given card) = cases (goodRecording recording) refl
   where
     cases : (t : Bool) → goodRecording recording ≡ t
-        → startedText form recording (min (samplesIn recording) mostSamples) (pick t (openSession settings (trainOf recording)) (refused 14))
-        ≡ startedText form recording (samplesIn recording) (pick t (openSession settings (trainOf recording)) (refused 14))
+        → startedText form recording (min (samplesIn recording) mostSamples) (pick t (openSession card (trainOf recording)) (refused 14))
+        ≡ startedText form recording (samplesIn recording) (pick t (openSession card (trainOf recording)) (refused 14))
     cases true e = rw (min-eq-left (good-met recording e .few))
     cases false e = refl
 capped form recording (refused m) = refl

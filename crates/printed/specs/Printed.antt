@@ -5,8 +5,8 @@ use mathlib.Core.Bool.{Bool}
 use mathlib.Core.List.{List, [], _∷_, _++_}
 use Rattle.leaf.specs.Choosing.{pick}
 use Rattle.leaf.specs.Answers.{Answer, given, refused, refusedAt}
-use Rattle.card.specs.declared.Settings.{Settings}
-use Rattle.card.specs.Reading.{readCard}
+use Rattle.card.specs.declared.Card.{Card}
+use Rattle.card.specs.Reading.{cardIn}
 use Rattle.step.specs.declared.Answer.{Answer as Told}
 use Rattle.session.specs.declared.Session.{Session}
 use Rattle.text.specs.Decimal.{ended, newline, line}
@@ -97,27 +97,28 @@ startedText form recording n (refused m) = refusedLine m
 startedText form recording n (refusedAt m place) = refusedLine m
 
 -- the card's refusal, or what follows
-unfoldable pub cardText : Form → List ℕ → ℕ → Answer Settings → List ℕ
-cardText form recording n (given settings) = startedText form recording n (startRide settings recording)
+unfoldable pub cardText : Form → List ℕ → ℕ → Answer Card → List ℕ
+cardText form recording n (given card) = startedText form recording n (startRide card recording)
 cardText form recording n (refused m) = refusedLine m
 cardText form recording n (refusedAt m place) = refusedLine m
 
--- "(highest 2)"
+-- document 01's "(highest 2)" gives way to 02 g: "The ride program's highest is 3 from g on." (g6)
 abbrev pub highest : ℕ
-highest = 2
+highest = 3
 
 -- the session that a recording starts on a card: that of a ride, "14, 7", on a card that was read; or the reader's refusal
-abbrev pub startAfter : Answer Settings → List ℕ → Answer Session
-startAfter (given settings) recording = startRide settings recording
+abbrev pub startAfter : Answer Card → List ℕ → Answer Session
+startAfter (given card) recording = startRide card recording
 startAfter (refused n) recording = refused n
 startAfter (refusedAt n place) recording = refusedAt n place
 
 unfoldable pub startOn : List ℕ → List ℕ → Answer Session
-startOn card recording = startAfter (readCard card highest) recording
+startOn card recording = startAfter (cardIn card highest) recording
 
--- "The ride program prints the heading, then reads the card (highest 2) from a file and the ride from standard input."
+-- "The ride program prints the heading, then reads the card (highest 2) from a file and the ride from standard input.", where "(highest 2)"
+-- gives way to 02 g: "The ride program's highest is 3 from g on." (g6)
 unfoldable pub printedAs : Form → List ℕ → List ℕ → List ℕ
-printedAs form card recording = headingOf form ++ cardText form recording (samplesIn recording) (readCard card highest)
+printedAs form card recording = headingOf form ++ cardText form recording (samplesIn recording) (cardIn card highest)
 
 -- the answers alone
 unfoldable pub printedRide : Columns → List ℕ → List ℕ → List ℕ
@@ -139,10 +140,10 @@ rideLines columns (refused m) = refusedLine m ∷ []
 rideLines columns (refusedAt m place) = refusedLine m ∷ []
 
 -- the ride on a card that was read, or not
-abbrev pub rideOn : Answer Settings → List ℕ → Answer (List (Answer Told))
-rideOn (given settings) recording = wholeRide settings recording
+abbrev pub rideOn : Answer Card → List ℕ → Answer (List (Answer Told))
+rideOn (given card) recording = wholeRide card recording
 rideOn (refused m) recording = refused m
 rideOn (refusedAt m place) recording = refusedAt m place
 
 unfoldable pub printedLines : Columns → List ℕ → List ℕ → List (List ℕ)
-printedLines columns card recording = heading columns ∷ rideLines columns (rideOn (readCard card highest) recording)
+printedLines columns card recording = heading columns ∷ rideLines columns (rideOn (cardIn card highest) recording)

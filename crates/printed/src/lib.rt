@@ -1,6 +1,7 @@
 // The printed ride: a heading, a line a sample, and the line that ends a refused one, typed into a lent buffer; the answers alone, or with
 // the reason of each S as a column more.
-use card::Reading;
+use card::Found;
+use card::card_in;
 use leaf::choose32;
 use rides::recording::samples;
 use rides::ride::Ride;
@@ -18,7 +19,7 @@ ghost use mathlib.Core.List.{[], _∷_};
 ghost use Prim.Native.Nat.{min, _≤_};
 ghost use lib.ListN.{length};
 ghost use Rattle.leaf.specs.Bytes.{over};
-ghost use Rattle.card.specs.Reading.{paperOf};
+ghost use Rattle.card.specs.Reading.{foundOf};
 ghost use Rattle.session.specs.Session.{openedOf};
 ghost use Rattle.text.specs.Decimal.{line};
 ghost use Rattle.text.specs.Typing.{typed};
@@ -30,7 +31,7 @@ const BLANK: u8 = 0x20;
 const NEWLINE: u8 = 0x0A;
 
 // The highest version of a card that is read.
-pub const HIGHEST: u8 = 2;
+pub const HIGHEST: u8 = 3;
 
 // Which columns are printed: document 01's, the sample's number, S, lamps and cause; or with them the rest of the answer, icon and
 // limit standing.
@@ -174,22 +175,15 @@ fn put_started(
     }
 }
 
-fn put_read(
-    form: Form,
-    reading: Reading,
-    recording: &[u8],
-    n: u16,
-    out: &mut [u8],
-    at: usize,
-) -> usize
-    ensures { λ r. ⌜ (now (out .exit), r) ≡ typed (cardText form (now (recording .entry)) n (paperOf reading)) (now (out .entry), at) ⌝ }
+fn put_read(form: Form, found: Found, recording: &[u8], n: u16, out: &mut [u8], at: usize) -> usize
+    ensures { λ r. ⌜ (now (out .exit), r) ≡ typed (cardText form (now (recording .entry)) n (foundOf found)) (now (out .entry), at) ⌝ }
 {
-    match reading {
-        Reading::Read(settings) => {
-            let opened = start(settings, recording);
+    match found {
+        Found::Read(card) => {
+            let opened = start(card, recording);
             put_started(form, opened, recording, n, out, at)
         }
-        Reading::Refused(why) => put_refused(out, at, number_of(why)),
+        Found::Refused(why) => put_refused(out, at, number_of(why)),
     }
 }
 
@@ -197,19 +191,19 @@ fn put_ride(form: Form, card: &[u8], recording: &[u8], out: &mut [u8]) -> usize
     ensures { λ r. ⌜ (now (out .exit), r) ≡ typed (printedAs form (now (card .entry)) (now (recording .entry))) (now (out .entry), 0) ⌝ }
 {
     let at = put_form_heading(form, out, 0);
-    let reading = card::read(card, HIGHEST);
+    let found = card_in(card, HIGHEST);
     let n = samples(recording);
-    put_read(form, reading, recording, n, out, at)
+    put_read(form, found, recording, n, out, at)
 }
 
 // The session that the recording starts on this card, or the refusal of the reader or of the start.
 pub fn start_on(card: &[u8], recording: &[u8]) -> Opened
     ensures { λ r. ⌜ openedOf r ≡ startOn (now (card .entry)) (now (recording .entry)) ⌝ }
 {
-    let reading = card::read(card, HIGHEST);
-    match reading {
-        Reading::Read(settings) => start(settings, recording),
-        Reading::Refused(why) => Opened::Refused(why),
+    let found = card_in(card, HIGHEST);
+    match found {
+        Found::Read(read) => start(read, recording),
+        Found::Refused(why) => Opened::Refused(why),
     }
 }
 

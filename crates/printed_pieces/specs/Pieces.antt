@@ -3,8 +3,8 @@
 use Prim.Native.Nat.{ℕ}
 use mathlib.Core.List.{List, [], _∷_, _++_}
 use Rattle.leaf.specs.Answers.{Answer, given, refused, refusedAt}
-use Rattle.card.specs.declared.Settings.{Settings}
-use Rattle.card.specs.Reading.{readCard}
+use Rattle.card.specs.declared.Card.{Card}
+use Rattle.card.specs.Reading.{cardIn}
 use Rattle.receiver.specs.Receiver.{startReceiver, takeOf, endOf, numberNow, receivedAll, receivedPieces}
 use Rattle.receiver.specs.declared.Receiver.{Receiver}
 use Rattle.printed.specs.Printed.{heading, highest, refusedLine, shownText}
@@ -13,13 +13,13 @@ use Rattle.printed.specs.declared.Columns.{Columns}
 -- ---- the start: "The card is judged when the receiver starts, before any byte" (a11)
 
 -- a receiver on a card that was read, or the reader's refusal
-abbrev pub startAfter : Answer Settings → Answer Receiver
-startAfter (given settings) = startReceiver settings
+abbrev pub startAfter : Answer Card → Answer Receiver
+startAfter (given card) = startReceiver card
 startAfter (refused n) = refused n
 startAfter (refusedAt n place) = refusedAt n place
 
 unfoldable pub startOn : List ℕ → Answer Receiver
-startOn card = startAfter (readCard card highest)
+startOn card = startAfter (cardIn card highest)
 
 -- the line of what refuses the start, or nothing
 unfoldable pub begunText : Answer Receiver → List ℕ

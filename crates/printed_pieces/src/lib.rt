@@ -1,5 +1,6 @@
 // The lines of a ride that comes in pieces, typed into a lent buffer as each piece is taken.
-use card::Reading;
+use card::Found;
+use card::card_in;
 use printed::Columns;
 use printed::HIGHEST;
 use printed::put_heading;
@@ -22,14 +23,14 @@ pub struct Begun {
     pub length: usize,
 }
 
-// A receiver on the settings of this card, or the refusal of the reader or of the start.
+// A receiver on this card, or the refusal of the reader or of the start.
 fn start_on(card: &[u8]) -> Started
     ensures { λ r. ⌜ startedOf r ≡ startOn (now (card .entry)) ⌝ }
 {
-    let reading = card::read(card, HIGHEST);
-    match reading {
-        Reading::Read(settings) => Receiver::start(settings),
-        Reading::Refused(why) => Started::Refused(why),
+    let found = card_in(card, HIGHEST);
+    match found {
+        Found::Read(read) => Receiver::start(read),
+        Found::Refused(why) => Started::Refused(why),
     }
 }
 

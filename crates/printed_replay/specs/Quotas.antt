@@ -4,8 +4,6 @@ use mathlib.Core.Bool.{Bool, true, false}
 use mathlib.Core.List.{List, [], _∷_, _++_}
 use Rattle.leaf.specs.Choosing.{pick}
 use Rattle.leaf.specs.Answers.{Answer, given, refused, refusedAt}
-use Rattle.card.specs.declared.Settings.{Settings}
-use Rattle.card.specs.Reading.{readCard}
 use Rattle.session.specs.declared.Session.{Session}
 use Rattle.text.specs.Decimal.{ended, newline, blank, line}
 use Rattle.text.specs.Words.{ascii, refusedBy}
@@ -18,7 +16,7 @@ use Rattle.rides.specs.declared.replay.End.the-variants as end
 use Rattle.printed.specs.Printed.{refusedLine, columnsOf, startOn}
 use Rattle.printed.specs.declared.Columns.the-variants.{Whole}
 
--- ---- the start: the heading, then the card (highest 2) and the recording
+-- ---- the start: the heading, then the card ("The ride program's highest is 3 from g on.", g6) and the recording
 
 -- the columns' names
 abbrev pub heading : List ℕ

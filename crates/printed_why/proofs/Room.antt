@@ -9,8 +9,8 @@ use lib.Dec.{lit≤}
 use lib.ListN.{length, length-append}
 use Rattle.leaf.specs.Choosing.{pick}
 use Rattle.leaf.specs.Answers.{Answer, given, refused, refusedAt}
-use Rattle.card.specs.declared.Settings.{Settings}
-use Rattle.card.specs.Reading.{readCard}
+use Rattle.card.specs.declared.Card.{Card}
+use Rattle.card.specs.Reading.{cardIn}
 use Rattle.session.specs.declared.Session.{Session}
 use Rattle.session.specs.Session.{openSession}
 use Rattle.session.specs.Why.{whyNow}
@@ -69,9 +69,9 @@ module _ (telling : Telling) where
   refused-fits : (n : ℕ) → length (refusedLine n) ≤ widest telling * 10000
   refused-fits n = le-trans (le-trans (refused-length n) (narrowest telling)) (le-mul-of-pos-right (widest telling) (lit≤ tt))
 
-  below-length : (recording : List ℕ) (read : Answer Settings) → length (whyBelow telling recording (samplesIn recording) (startAfter read recording)) ≤ widest telling * 10000
+  below-length : (recording : List ℕ) (read : Answer Card) → length (whyBelow telling recording (samplesIn recording) (startAfter read recording)) ≤ widest telling * 10000
   unfolding startRide whyBelow
-  below-length recording (given settings) = cases (goodRecording recording) refl (openSession settings (trainOf recording))
+  below-length recording (given card) = cases (goodRecording recording) refl (openSession card (trainOf recording))
     where
       opened : samplesIn recording ≤ 10000 → (a : Answer Session) → length (whyBelow telling recording (samplesIn recording) a) ≤ widest telling * 10000
       opened few (given s) = le-trans (lines-length (freshRide s) recording (samplesIn recording)) (mul-le-mul-left (widest telling) few)
@@ -91,7 +91,7 @@ heading-length Words = lit≤ tt
 pub printed-why-length : (telling : Telling) (card recording : List ℕ) → length (printedWhy telling card recording) ≤ widest telling * 10000 + 40
 unfolding printedWhy startOn
 printed-why-length telling card recording =
-    simp length-append (omega (arith, heading-length telling, below-length telling recording (readCard card highest)))
+    simp length-append (omega (arith, heading-length telling, below-length telling recording (cardIn card highest)))
 
 -- ---- the two rooms
 

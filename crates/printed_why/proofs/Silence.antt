@@ -6,12 +6,12 @@ use mathlib.Core.List.{List}
 use lib.ListN.{length}
 use Rattle.leaf.specs.Bytes.{byte}
 use Rattle.card.specs.Card.{lengthOf, speaks}
-use Rattle.card.proofs.Silence.{silence}
-use Rattle.printed.specs.Printed.{startOn}
+use Rattle.card.proofs.Silence.{card-silence}
+use Rattle.printed.specs.Printed.{highest, startOn}
 use Rattle.printed_why.specs.PrintedWhy.{printedWhy}
 use Rattle.printed_why.specs.declared.Telling.{Telling}
 
 pub why-silence : (telling : Telling) (a b recording : List ℕ) → lengthOf (byte a 2) ≤ length a → lengthOf (byte a 2) ≤ length b
     → ((i : ℕ) → speaks (byte a 2) (byte a 39) i ≡ true → byte a i ≡ byte b i) → printedWhy telling a recording ≡ printedWhy telling b recording
 unfolding printedWhy startOn
-why-silence telling a b recording fits-a fits-b same = rw (silence a b 2 fits-a fits-b same)
+why-silence telling a b recording fits-a fits-b same = rw (card-silence a b highest fits-a fits-b same)

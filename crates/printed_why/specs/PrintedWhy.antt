@@ -2,8 +2,6 @@
 use Prim.Native.Nat.{ℕ, zero, suc}
 use mathlib.Core.List.{List, [], _∷_, _++_}
 use Rattle.leaf.specs.Answers.{Answer, given, refused, refusedAt}
-use Rattle.card.specs.declared.Settings.{Settings}
-use Rattle.card.specs.Reading.{readCard}
 use Rattle.session.specs.declared.Session.{Session}
 use Rattle.text.specs.Decimal.{newline}
 use Rattle.text.specs.Words.{ascii}

@@ -9,7 +9,7 @@ returns : tie.Need-returns
 unfolding printedAs
 returns c =
     then-typed _ _ _ (c .before .before .before .before .before .before .before .before .put-form-heading .ensures)
-    (rw (c .before .before .before .before .before .read .ensures, c .before .before .before .before .samples .ensures, capped) at (c .before .before .put-read .ensures))
+    (rw (c .before .before .before .before .before .card-in .ensures, c .before .before .before .before .samples .ensures, capped) at (c .before .before .put-read .ensures))
 
 pub put-ride-spec : {M : Type 1} → statement M
 put-ride-spec =
