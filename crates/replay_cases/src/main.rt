@@ -10,7 +10,8 @@
 // refused is `refused N` alone. Places and quotas are decimal, all else is hexadecimal, two digits a byte; no bytes are `-`.
 // tests/compare/README.md has the rest. What the program `replay` cannot show is shown here: any place, a session that is handed in
 // out of its ranges or for another train type, and calls behind a refused one.
-use card::Reading;
+use card::Found;
+use card::card_in;
 use case_lines::behind;
 use case_lines::unhex;
 use leaf::byte_at;
@@ -193,10 +194,10 @@ fn say_refused(number: u8) {
 }
 
 fn opened_on(card: &[u8], train: u8) -> Opened {
-    let reading = card::read(card, HIGHEST);
-    match reading {
-        Reading::Read(settings) => Session::open(settings, train),
-        Reading::Refused(why) => Opened::Refused(why),
+    let found = card_in(card, HIGHEST);
+    match found {
+        Found::Read(read) => Session::open(read, train),
+        Found::Refused(why) => Opened::Refused(why),
     }
 }
 

@@ -7,7 +7,8 @@
 // `refused N`. A card or an opening that is refused is `refused N` alone. All is hexadecimal, two digits a byte; SINCE has two bytes and a
 // sample six, as in a recording; no bytes are `-`. tests/compare/README.md has the rest. What the program `why` cannot show is shown here: a
 // brake that came on any number of samples ago, a session that is handed in out of its ranges, and samples behind a refused one.
-use card::Reading;
+use card::Found;
+use card::card_in;
 use case_lines::behind;
 use case_lines::unhex;
 use leaf::byte_at;
@@ -125,10 +126,10 @@ fn say_refused(number: u8) {
 }
 
 fn opened_on(card: &[u8], train: u8) -> Opened {
-    let reading = card::read(card, HIGHEST);
-    match reading {
-        Reading::Read(settings) => Session::open(settings, train),
-        Reading::Refused(why) => Opened::Refused(why),
+    let found = card_in(card, HIGHEST);
+    match found {
+        Found::Read(read) => Session::open(read, train),
+        Found::Refused(why) => Opened::Refused(why),
     }
 }
 
