@@ -9,13 +9,12 @@ use borrow.Author.Tests.{eqb-true, eqb-false}
 use Rattle.leaf.specs.Choosing.{pick}
 use Rattle.leaf.specs.Numbers.{codeTop}
 use Rattle.leaf.specs.Answers.{Answer, given, refused, refusedAt}
-use Rattle.card.specs.declared.Settings.{Settings}
-use Rattle.card.specs.Ranges.{checkSettings, inRange}
-use Rattle.card.proofs.Accepted.{in-range-only}
+use Rattle.card.specs.declared.Card.{Card}
+use Rattle.card.specs.Ranges.{inRange}
 use Rattle.session.specs.declared.Sample.{Sample}
 use Rattle.session.specs.declared.Session.{Session}
 use Rattle.session.specs.Types.{typeSpeed, typeAllowed}
-use Rattle.session.specs.Session.{freshSession, openingVersion, openedAfter, openSession, insideOf, refusedBy, carried, ranOf, sampleOf}
+use Rattle.session.specs.Session.{freshSession, judgeCard, openedAfter, openSession, cardInside, insideOf, refusedBy, carried, ranOf, sampleOf}
 use Rattle.session.specs.Runs.{after}
 use Rattle.step_laws.proofs.Ranges.{range-laws}
 use Rattle.laws.specs.Ranges.{Inside}
@@ -25,20 +24,23 @@ use Rattle.laws.proofs.Refusals.{refusal-laws}
 
 -- ---- opening
 
-opened-inside : (settings : Settings) (train : ℕ) (s : Session) → openSession settings train ≡ given s → insideOf s ≡ true
-unfolding openSession
-opened-inside settings train s h = judged (checkSettings openingVersion settings) refl h
+opened-inside : (card : Card) (train : ℕ) (s : Session) → openSession card train ≡ given s → insideOf s ≡ true
+unfolding openSession cardInside
+opened-inside card train s h = judged (judgeCard card) refl h
   where
-    typed : (t : Bool) → typeAllowed train (settings .vmax) ≡ t → checkSettings openingVersion settings ≡ inRange → pick t (given (freshSession settings train)) (refused 7) ≡ given s → insideOf s ≡ true
+    fine : judgeCard card ≡ inRange → cardInside card ≡ true
+    fine c = rw c
+
+    typed : (t : Bool) → typeAllowed train (card .settings .vmax) ≡ t → judgeCard card ≡ inRange → pick t (given (freshSession card train)) (refused 7) ≡ given s → insideOf s ≡ true
     typed true e c h =
-        let t = session-ranges .type-allowed train (settings .vmax) .0 e in
-        let same : freshSession settings train ≡ s = cc in
-        let i : Inside (freshSession settings train) = record { settings = in-range-only openingVersion settings c; train-low = t .0; train-high = t .1 .0; type-speed = t .1 .1; desk = range-laws .fresh-in } in
-        rw (← same) (inside-when (freshSession settings train) i)
+        let t = session-ranges .type-allowed train (card .settings .vmax) .0 e in
+        let same : freshSession card train ≡ s = cc in
+        let i : Inside (freshSession card train) = record { card = session-ranges .card-inside card .0 (fine c); train-low = t .0; train-high = t .1 .0; type-speed = t .1 .1; desk = range-laws .fresh-in } in
+        rw (← same) (inside-when (freshSession card train) i)
     typed false e c h = let z : _≡_ {A = ℕ} 0 1 = cc in absurd (omega arith)
 
-    judged : (a : Answer Unit) → checkSettings openingVersion settings ≡ a → openedAfter a settings train ≡ given s → insideOf s ≡ true
-    judged (given u) c h = typed (typeAllowed train (settings .vmax)) refl c h
+    judged : (a : Answer Unit) → judgeCard card ≡ a → openedAfter a card train ≡ given s → insideOf s ≡ true
+    judged (given u) c h = typed (typeAllowed train (card .settings .vmax)) refl c h
     judged (refused n) c h = let z : _≡_ {A = ℕ} 0 1 = cc in absurd (omega arith)
     judged (refusedAt n place) c h = let z : _≡_ {A = ℕ} 0 1 = cc in absurd (omega arith)
 
@@ -49,11 +51,11 @@ unfolding ranOf
 ran-inside s x b h =
     let i = inside-only s h in
     inside-when _ (record {
-      settings = i .settings;
+      card = i .card;
       train-low = i .train-low;
       train-high = i .train-high;
       type-speed = i .type-speed;
-      desk = range-laws .step-in (s .settings) (typeSpeed (s .train) * 100) (carried s x) (s .desk) b (i .desk);
+      desk = range-laws .step-in (s .card) (typeSpeed (s .train) * 100) (carried s x) (s .desk) b (i .desk);
     })
 
 sample-inside : (s : Session) (x : Sample) → insideOf s ≡ true → insideOf (sampleOf s x .session) ≡ true
@@ -76,14 +78,14 @@ unfolding after
 after-inside s [] h = h
 after-inside s (x ∷ rest) h = after-inside _ rest (sample-inside s x h)
 
-always-inside : (settings : Settings) (train : ℕ) (s : Session) (xs : List Sample) → openSession settings train ≡ given s → insideOf (after s xs) ≡ true
-always-inside settings train s xs h = after-inside s xs (opened-inside settings train s h)
+always-inside : (card : Card) (train : ℕ) (s : Session) (xs : List Sample) → openSession card train ≡ given s → insideOf (after s xs) ≡ true
+always-inside card train s xs h = after-inside s xs (opened-inside card train s h)
 
 never-8 :
-    (settings : Settings) (train : ℕ) (s : Session) (xs : List Sample) (x : Sample)
-    → openSession settings train ≡ given s → refusedBy (after s xs) x ≡ 8 → ⊥
-never-8 settings train s xs x h e =
-    refusal-laws (after s xs) x .refused-8 .0 e (inside-only (after s xs) (always-inside settings train s xs h))
+    (card : Card) (train : ℕ) (s : Session) (xs : List Sample) (x : Sample)
+    → openSession card train ≡ given s → refusedBy (after s xs) x ≡ 8 → ⊥
+never-8 card train s xs x h e =
+    refusal-laws (after s xs) x .refused-8 .0 e (inside-only (after s xs) (always-inside card train s xs h))
 
 pub inside-laws : InsideLaws
 inside-laws =

@@ -138,7 +138,7 @@ module _ (s : Session) (x : Sample) where
   b = codesTest x
 
   abbrev c : Bool
-  c = leb (x .pulses * s .settings .tick) 100000
+  c = leb (x .pulses * s .card .settings .tick) 100000
 
   abbrev e : Bool
   e = modeTest (s .desk .bts) (x .pulses) (s .desk .brake) (x .mode)
@@ -180,28 +180,28 @@ module _ (s : Session) (x : Sample) where
       when : Inside s × (CodesMet x → ⊥) → refusedBy s x ≡ 9
       when m = by-tests ∙ rw (inside-when s (m .0), not-so b (λ q. m .1 (codes-only x q)))
 
-  refused-10 : (refusedBy s x ≡ 10) ↔ (Inside s × (CodesMet x × (100000 < x .pulses * s .settings .tick)))
+  refused-10 : (refusedBy s x ≡ 10) ↔ (Inside s × (CodesMet x × (100000 < x .pulses * s .card .settings .tick)))
   refused-10 = (only, when)
     where
-      only : refusedBy s x ≡ 10 → Inside s × (CodesMet x × (100000 < x .pulses * s .settings .tick))
+      only : refusedBy s x ≡ 10 → Inside s × (CodesMet x × (100000 < x .pulses * s .card .settings .tick))
       only h =
           let t = is-10 a b c e (sym by-tests ∙ h) in
           (inside-only s (t .0), (codes-only x (t .1 .0), leb-false _ _ (t .1 .1)))
 
-      when : Inside s × (CodesMet x × (100000 < x .pulses * s .settings .tick)) → refusedBy s x ≡ 10
+      when : Inside s × (CodesMet x × (100000 < x .pulses * s .card .settings .tick)) → refusedBy s x ≡ 10
       when m = by-tests ∙ rw (inside-when s (m .0), codes-when x (m .1 .0), lt-leb _ _ (m .1 .1))
 
   refused-11 : (refusedBy s x ≡ 11)
-      ↔ (Inside s × (CodesMet x × ((x .pulses * s .settings .tick ≤ 100000) × (ModeMet s x → ⊥))))
+      ↔ (Inside s × (CodesMet x × ((x .pulses * s .card .settings .tick ≤ 100000) × (ModeMet s x → ⊥))))
   refused-11 = (only, when)
     where
       only : refusedBy s x ≡ 11
-          → Inside s × (CodesMet x × ((x .pulses * s .settings .tick ≤ 100000) × (ModeMet s x → ⊥)))
+          → Inside s × (CodesMet x × ((x .pulses * s .card .settings .tick ≤ 100000) × (ModeMet s x → ⊥)))
       only h =
           let t = is-11 a b c e (sym by-tests ∙ h) in
           (inside-only s (t .0), (codes-only x (t .1 .0), (leb-true _ _ (t .1 .1 .0), λ m. apart e (mode-when (s .desk .bts) (x .pulses) (s .desk .brake) (x .mode) m) (t .1 .1 .1))))
 
-      when : Inside s × (CodesMet x × ((x .pulses * s .settings .tick ≤ 100000) × (ModeMet s x → ⊥)))
+      when : Inside s × (CodesMet x × ((x .pulses * s .card .settings .tick ≤ 100000) × (ModeMet s x → ⊥)))
           → refusedBy s x ≡ 11
       when m =
           let codes = m .1 .0 in

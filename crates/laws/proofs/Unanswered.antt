@@ -23,7 +23,7 @@ mode-as false mode e = rw e
 
 module _ (s : Session) (x : Sample) where
   -- the desk of an accepted sample
-  desk-after : refusedBy s x ≡ 0 → sampleOf s x .session .desk ≡ stepOf (s .settings) (topOf s) (carried s x) (s .desk) .desk
+  desk-after : refusedBy s x ≡ 0 → sampleOf s x .session .desk ≡ stepOf (s .card) (topOf s) (carried s x) (s .desk) .desk
   unfolding ranOf
   desk-after a = ap (λ (r : Sampled). r .session .desk) (refusal-laws s x .accepted-as a)
 
@@ -31,13 +31,13 @@ module _ (s : Session) (x : Sample) where
   over which = TimeOver (carried s x) (s .desk) which
 
   abbrev arose : ℕ
-  arose = stepOf (s .settings) (topOf s) (carried s x) (s .desk) .arose
+  arose = stepOf (s .card) (topOf s) (carried s x) (s .desk) .arose
 
   arose-main : over main → arose ≡ 1
-  arose-main t = miss-laws (s .settings) (topOf s) (carried s x) (s .desk) .cause-1 .1 t
+  arose-main t = miss-laws (s .card) (topOf s) (carried s x) (s .desk) .cause-1 .1 t
 
   arose-side : over side → (over main → ⊥) → arose ≡ 2
-  arose-side t n = miss-laws (s .settings) (topOf s) (carried s x) (s .desk) .cause-2 .1 (t, n)
+  arose-side t n = miss-laws (s .card) (topOf s) (carried s x) (s .desk) .cause-2 .1 (t, n)
 
   -- a cause arises
   some-arose : (which : Which) → over which → arose ≡ 0 → ⊥
@@ -46,17 +46,17 @@ module _ (s : Session) (x : Sample) where
 
   -- the cause after the sample is the one that arose, where none stood
   stands-after : refusedBy s x ≡ 0 → s .desk .brake .cause ≡ 0 → sampleOf s x .session .desk .brake .cause ≡ arose
-  stands-after a z = ap (λ (d : Desk). d .brake .cause) (desk-after a) ∙ brake-laws (s .settings) (topOf s) (carried s x) (s .desk) .first-stands z
+  stands-after a z = ap (λ (d : Desk). d .brake .cause) (desk-after a) ∙ brake-laws (s .card) (topOf s) (carried s x) (s .desk) .first-stands z
 
   missed-brakes : refusedBy s x ≡ 0 → (which : Which) → over which → sampleOf s x .session .desk .brake .cause ≡ 0 → ⊥
   missed-brakes a which t z =
-      brake-laws (s .settings) (topOf s) (carried s x) (s .desk) .brake-not-off (some-arose which t) (rw (desk-after a) at z)
+      brake-laws (s .card) (topOf s) (carried s x) (s .desk) .brake-not-off (some-arose which t) (rw (desk-after a) at z)
 
   pub unanswered-laws : UnansweredLaws s x
   unanswered-laws =
       record {
         keeps-mode = mode-as (s .desk .bts) (x .mode);
-        window-after = λ a which. rw (desk-after a) (window-after (s .settings) (topOf s) (carried s x) (s .desk) which);
+        window-after = λ a which. rw (desk-after a) (window-after (s .card) (topOf s) (carried s x) (s .desk) which);
         main-missed = λ a t z. stands-after a z ∙ arose-main t;
         side-missed = λ a t n z. stands-after a z ∙ arose-side t n;
         missed-brakes = missed-brakes;

@@ -6,23 +6,28 @@ use Prim.Native.Nat.{ℕ, _≤_}
 use mathlib.Core.Path.{_≡_}
 use mathlib.Core.Bool.{true}
 use mathlib.Core.Logic.{_↔_}
-use Rattle.card.specs.declared.Settings.{Settings}
-use Rattle.card.specs.Plain.{SettingsMet}
+use Rattle.card.specs.declared.Card.{Card}
+use Rattle.card.specs.Plain.{Known, SettingsMet}
 use Rattle.session.specs.declared.Session.{Session}
 use Rattle.session.specs.Types.{typeSpeed, typeAllowed}
-use Rattle.session.specs.Session.{openingVersion, settingsInside, insideOf}
+use Rattle.session.specs.Session.{cardInside, insideOf}
 use Rattle.step_laws.specs.Ranges.{DeskIn}
 
--- a session inside its ranges: the settings by the card's plain facts, judged as opening judges them; the desk by `≤` on each number
+-- 02 g: "8 judges settings beside it as the opening does" (g5): a version that is known, and the settings beside it by the card's plain facts
+pub record CardIn (card : Card) : Type 0 where
+  pub version : Known (card .version)
+  pub settings : SettingsMet (card .version) (card .settings)
+
+-- a session inside its ranges: version and settings judged as opening judges them; the desk by `≤` on each number
 pub record Inside (s : Session) : Type 0 where
-  pub settings : SettingsMet openingVersion (s .settings)
+  pub card : CardIn (s .card)
   pub train-low : 1 ≤ s .train
   pub train-high : s .train ≤ 8
-  pub type-speed : typeSpeed (s .train) ≤ s .settings .vmax
+  pub type-speed : typeSpeed (s .train) ≤ s .card .settings .vmax
   pub desk : DeskIn (s .desk)
 
 pub record SessionRanges : Type 0 where
-  pub settings-inside : (st : Settings) → (settingsInside st ≡ true) ↔ SettingsMet openingVersion st
+  pub card-inside : (card : Card) → (cardInside card ≡ true) ↔ CardIn card
   -- "7 | train type not 1..8, or faster than vmax"
   pub type-allowed : (train vmax : ℕ) → (typeAllowed train vmax ≡ true) ↔ ((1 ≤ train) × ((train ≤ 8) × (typeSpeed train ≤ vmax)))
   -- the session: inside exactly when the facts hold

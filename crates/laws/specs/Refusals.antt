@@ -35,7 +35,7 @@ ModeMet s x = (x .mode ≡ modeOf s) ⊎ AtStandstill (x .pulses) (s .desk .brak
 pub record Accepted (s : Session) (x : Sample) : Type 0 where
   pub inside : Inside s
   pub codes : CodesMet x
-  pub slow : x .pulses * s .settings .tick ≤ 100000
+  pub slow : x .pulses * s .card .settings .tick ≤ 100000
   pub kept : ModeMet s x
 
 -- ---- the laws
@@ -48,9 +48,9 @@ pub record RefusalLaws (s : Session) (x : Sample) : Type 0 where
   -- "9 | beacon, buttons or mode out of range": and the session is inside
   pub refused-9 : (refusedBy s x ≡ 9) ↔ (Inside s × (CodesMet x → ⊥))
   -- "10 | pulses × tick length above 100,000": and nothing before it
-  pub refused-10 : (refusedBy s x ≡ 10) ↔ (Inside s × (CodesMet x × (100000 < x .pulses * s .settings .tick)))
+  pub refused-10 : (refusedBy s x ≡ 10) ↔ (Inside s × (CodesMet x × (100000 < x .pulses * s .card .settings .tick)))
   -- "11 | mode changed", 02 b: "while not at standstill": and nothing before it
-  pub refused-11 : (refusedBy s x ≡ 11) ↔ (Inside s × (CodesMet x × ((x .pulses * s .settings .tick ≤ 100000) × (ModeMet s x → ⊥))))
+  pub refused-11 : (refusedBy s x ≡ 11) ↔ (Inside s × (CodesMet x × ((x .pulses * s .card .settings .tick ≤ 100000) × (ModeMet s x → ⊥))))
   -- "sample 8, 9, 10, 11": a number that is given is that of a check of the list that fails, and every check before it holds
   pub first-refused : (n : ℕ) → refusedBy s x ≡ n → (n ≡ 0 → ⊥) → FirstFault n (sampleChecks s x)
   -- "A refusal returns its number .. and leaves .. the handed-in session unchanged."

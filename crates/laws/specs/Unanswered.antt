@@ -19,7 +19,7 @@ pub record UnansweredLaws (s : Session) (x : Sample) : Type 0 where
   pub keeps-mode : x .mode ≡ modeOf s → s .desk .bts ≡ inBts (x .mode)
   -- an unanswered window is one sample nearer its miss, whatever was read, or shut by a 3 or 8, or the zone's
   pub window-after :
-      refusedBy s x ≡ 0 → (which : Which) → WindowAfter (s .settings) (topOf s) (carried s x) (s .desk) (sampleOf s x .session .desk) which
+      refusedBy s x ≡ 0 → (which : Which) → WindowAfter (s .card) (topOf s) (carried s x) (s .desk) (sampleOf s x .session .desk) which
   -- time over is a miss: "cause 1 main, cause 2 side", the lower of both, where no cause stood,
   pub main-missed :
       refusedBy s x ≡ 0 → TimeOver (carried s x) (s .desk) main → s .desk .brake .cause ≡ 0 → sampleOf s x .session .desk .brake .cause ≡ 1

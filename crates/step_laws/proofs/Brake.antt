@@ -9,7 +9,7 @@ use borrow.Author.Tests.{le-leb, leb-true, eqb-true, eqb-false, ne-eqb, not-true
 use Rattle.leaf.specs.Choosing.{pick, and-split}
 use Rattle.leaf.specs.Numbers.{agedOf, bitOf}
 use Rattle.leaf.specs.Buttons.{rearmButton}
-use Rattle.card.specs.declared.Settings.{Settings}
+use Rattle.card.specs.declared.Card.{Card}
 use Rattle.desk.specs.declared.brake.Brake.{Brake}
 use Rattle.desk.specs.declared.state.Desk.{Desk}
 use Rattle.desk.specs.Brake.{standingTime, stoodAfter, standstill, brakeAge}
@@ -75,18 +75,18 @@ standstill-as pulses b = (only, when)
 
 -- ---- of every sample
 
-module _ (s : Settings) (top : ℕ) (x : Input) (d : Desk) where
+module _ (card : Card) (top : ℕ) (x : Input) (d : Desk) where
   abbrev after : ℕ
-  after = causeAfter s top x d
+  after = causeAfter card top x d
 
   abbrev arose : ℕ
-  arose = causeArose s top x d
+  arose = causeArose card top x d
 
   cause-after : after ≡ standingCause (d .brake .cause) arose (rearms x d)
   unfolding stepOf judgedOf braked crossingTurned
-  cause-after = rw (carried-laws s top x d .to-brake)
+  cause-after = rw (carried-laws card top x d .to-brake)
 
-  cause-told : stepOf s top x d .answer .cause ≡ after
+  cause-told : stepOf card top x d .answer .cause ≡ after
   unfolding stepOf judgedOf answerOf
   cause-told = refl
 
@@ -114,31 +114,31 @@ module _ (s : Settings) (top : ℕ) (x : Input) (d : Desk) where
   goes-off : AtStandstill (x .pulses) (d .brake) → bitOf (x .buttons) rearmButton ≡ true → arose ≡ 0 → after ≡ 0
   goes-off still pressed none = cause-after ∙ rw (none, standstill-as (x .pulses) (d .brake) .1 still, pressed) (rule-off (d .brake .cause))
 
-  stood-then : stoodThen s top x d ≡ stoodAfter (x .pulses) (d .brake .stood)
+  stood-then : stoodThen card top x d ≡ stoodAfter (x .pulses) (d .brake .stood)
   unfolding stepOf judgedOf braked crossingTurned
-  stood-then = rw (carried-laws s top x d .to-brake)
+  stood-then = rw (carried-laws card top x d .to-brake)
 
-  age-then : ageThen s top x d ≡ brakeAge (staysOn (d .brake .cause) after) (d .brake .age)
+  age-then : ageThen card top x d ≡ brakeAge (staysOn (d .brake .cause) after) (d .brake .age)
   unfolding stepOf judgedOf braked crossingTurned
-  age-then = rw (carried-laws s top x d .to-brake)
+  age-then = rw (carried-laws card top x d .to-brake)
 
   -- the lamp, on numbers
-  lit : bitOf (stepOf s top x d .answer .lamps) rearmButton ≡ (standstill (x .pulses) (d .brake) && not (eqb after 0))
+  lit : bitOf (stepOf card top x d .answer .lamps) rearmButton ≡ (standstill (x .pulses) (d .brake) && not (eqb after 0))
   unfolding stepOf judgedOf answerOf crossingTurned
-  lit = lamp-rearm _ _ _ ∙ ap (λ (b : Brake). standstill (x .pulses) b && not (eqb after 0)) (carried-laws s top x d .to-brake)
+  lit = lamp-rearm _ _ _ ∙ ap (λ (b : Brake). standstill (x .pulses) b && not (eqb after 0)) (carried-laws card top x d .to-brake)
 
-  lamp-10 : (bitOf (stepOf s top x d .answer .lamps) rearmButton ≡ true) ↔ ((after ≡ 0 → ⊥) × AtStandstill (x .pulses) (d .brake))
+  lamp-10 : (bitOf (stepOf card top x d .answer .lamps) rearmButton ≡ true) ↔ ((after ≡ 0 → ⊥) × AtStandstill (x .pulses) (d .brake))
   lamp-10 = (only, when)
     where
-      only : bitOf (stepOf s top x d .answer .lamps) rearmButton ≡ true → (after ≡ 0 → ⊥) × AtStandstill (x .pulses) (d .brake)
+      only : bitOf (stepOf card top x d .answer .lamps) rearmButton ≡ true → (after ≡ 0 → ⊥) × AtStandstill (x .pulses) (d .brake)
       only h =
           let t = and-split (standstill (x .pulses) (d .brake)) (not (eqb after 0)) (sym lit ∙ h) in
           (eqb-false after 0 (not-true (eqb after 0) (t .1)), standstill-as (x .pulses) (d .brake) .0 (t .0))
 
-      when : (after ≡ 0 → ⊥) × AtStandstill (x .pulses) (d .brake) → bitOf (stepOf s top x d .answer .lamps) rearmButton ≡ true
+      when : (after ≡ 0 → ⊥) × AtStandstill (x .pulses) (d .brake) → bitOf (stepOf card top x d .answer .lamps) rearmButton ≡ true
       when h = lit ∙ rw (standstill-as (x .pulses) (d .brake) .1 (h .1), ne-eqb after 0 (h .0))
 
-  pub brake-laws : BrakeLaws s top x d
+  pub brake-laws : BrakeLaws card top x d
   brake-laws =
       record {
         standstill-as = standstill-as (x .pulses) (d .brake);
@@ -146,7 +146,7 @@ module _ (s : Settings) (top : ℕ) (x : Input) (d : Desk) where
         age-then = age-then;
         cause-after = cause-after;
         cause-told = cause-told;
-        arose-high = arose-in s top x d;
+        arose-high = arose-in card top x d;
         stands-until = stands-until;
         first-stands = λ z. cause-after ∙ rule-first (d .brake .cause) arose (rearms x d) z;
         brake-on = brake-on;

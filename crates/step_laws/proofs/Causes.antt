@@ -4,7 +4,8 @@ use native.Mathlib.Omega.{arith}
 use mathlib.Core.Bool.{Bool, _&&_, not}
 use lib.Dec.{eqb}
 use Rattle.leaf.specs.Numbers.{causeTop, exceedsOf, quietCode}
-use Rattle.card.specs.declared.Settings.{Settings}
+use Rattle.card.specs.declared.Card.{Card}
+use Rattle.card.specs.declared.Pairs.{Pairs}
 use Rattle.signals.specs.Windows.{missedOf}
 use Rattle.signals.specs.Stop.{reminderMissed}
 use Rattle.desk.specs.declared.state.Desk.{Desk}
@@ -31,29 +32,29 @@ begun-cause bts m f x y d =
     pick-has (λ (t : Turn). t .cause ≤ 5) (sameMode (d .bts) bts) {x = advanced m f x y d} {y = record { desk = modeChanged bts d; cause = 0 }}
     (miss-cause (missedOf (old .window)) (missedOf (old .side)) (reminderMissed (old .reminder))) (omega arith)
 
-beacon-cause : (code : ℕ) (f0 f1 f3 : Bool) (d : Desk) → beaconTaken code f0 f1 f3 d .cause ≤ 5
+beacon-cause : (code : ℕ) (f0 f1 f3 paired : Bool) (pairs : Pairs) (d : Desk) → beaconTaken code f0 f1 f3 paired pairs d .cause ≤ 5
 unfolding beaconTaken
-beacon-cause code f0 f1 f3 d =
+beacon-cause code f0 f1 f3 paired pairs d =
     pick-low 5 (readsOf code f3 (d .bts) (d .code) && eqb code 8 && not (d .armed .armed)) {x = 4} {y = 0} (omega arith) (omega arith)
 
 lowest-in : (top a b : ℕ) → a ≤ top → b ≤ top → lowest a b ≤ top
 unfolding lowest
 lowest-in top a b p q = pick-low top (eqb a 0) q (pick-low top (eqb b 0) {x = a} {y = min a b} p (omega arith))
 
-moved-cause : (s : Settings) (top : ℕ) (x : Input) (d : Desk) → movedOf s top x d .cause ≤ 5
+moved-cause : (card : Card) (top : ℕ) (x : Input) (d : Desk) → movedOf card top x d .cause ≤ 5
 unfolding movedOf
-moved-cause s top x d = lowest-in 5 _ _ (begun-cause (x .bts) (x .m) _ (s .x) (s .y) d) (beacon-cause (x .beacon) _ _ _ _)
+moved-cause card top x d = lowest-in 5 _ _ (begun-cause (x .bts) (x .m) _ (card .settings .x) (card .settings .y) d) (beacon-cause (x .beacon) _ _ _ _ _ _)
 
 -- what arises without the pickup is 0..5
-pub to-speed : (s : Settings) (top : ℕ) (x : Input) (d : Desk) (speed : ℕ) → lowest (movedOf s top x d .cause) (speedCause (x .m) speed) ≤ 5
-to-speed s top x d speed =
-    lowest-in 5 _ _ (moved-cause s top x d) (pick-low 5 (exceedsOf (x .m) (speed + 500)) {x = 5} {y = 0} (omega arith) (omega arith))
+pub to-speed : (card : Card) (top : ℕ) (x : Input) (d : Desk) (speed : ℕ) → lowest (movedOf card top x d .cause) (speedCause (x .m) speed) ≤ 5
+to-speed card top x d speed =
+    lowest-in 5 _ _ (moved-cause card top x d) (pick-low 5 (exceedsOf (x .m) (speed + 500)) {x = 5} {y = 0} (omega arith) (omega arith))
 
 -- and what arises in a sample 0..6
-pub arose-in : (s : Settings) (top : ℕ) (x : Input) (d : Desk) → stepOf s top x d .arose ≤ causeTop
+pub arose-in : (card : Card) (top : ℕ) (x : Input) (d : Desk) → stepOf card top x d .arose ≤ causeTop
 unfolding stepOf judgedOf aroseOf
-arose-in s top x d =
-    let turned : Desk = crossingTurned (x .m) (movedOf s top x d .desk) in
-    let five = to-speed s top x d (supervisedOf s top turned) in
+arose-in card top x d =
+    let turned : Desk = crossingTurned (x .m) (movedOf card top x d .desk) in
+    let five = to-speed card top x d (supervisedOf (card .settings) top turned) in
     lowest-in causeTop _ _ (omega arith)
     (pick-low causeTop (eqb (x .beacon) quietCode && not (x .bts)) {x = 6} {y = 0} (omega arith) (omega arith))

@@ -7,11 +7,12 @@ use borrow.Author.Tests.{le-leb, leb-true}
 use Rattle.leaf.specs.Choosing.{and-split}
 use Rattle.leaf.specs.Numbers.{ageTop, distanceTop, codeTop, causeTop}
 use Rattle.sides.specs.Limit.{stepsTop}
+use Rattle.sides.specs.declared.pairs.Paired.{Paired}
 use Rattle.desk.specs.declared.brake.Brake.{Brake}
 use Rattle.desk.specs.declared.beside.Beside.{Beside}
 use Rattle.desk.specs.declared.state.Desk.{Desk}
-use Rattle.desk.specs.Ranges.{brakeInside, mainInside, windowInside, overrideInside, reminderInside, optionInside, alongsideInside, crossingInside, limitInside, besideInside, deskInside}
-use Rattle.step_laws.specs.Ranges.{BrakeIn, BesideIn, DeskIn}
+use Rattle.desk.specs.Ranges.{brakeInside, mainInside, windowInside, overrideInside, reminderInside, optionInside, alongsideInside, crossingInside, limitInside, fourInside, pairedInside, besideInside, deskInside}
+use Rattle.step_laws.specs.Ranges.{BrakeIn, PairedIn, BesideIn, DeskIn}
 
 -- ---- two tests at once
 
@@ -38,12 +39,35 @@ brake-only b h = let t = three-in (b .cause) causeTop (b .stood) ageTop (b .age)
 brake-when : (b : Brake) → BrakeIn b → brakeInside b ≡ true
 brake-when b h = three-out (b .cause) causeTop (b .stood) ageTop (b .age) ageTop (h .cause) (h .stood) (h .age)
 
+paired-only : (p : Paired) → pairedInside p ≡ true → PairedIn p
+paired-only p h =
+    let t = and-split (leb (p .first .distance) distanceTop) (fourInside (p .limits)) h in
+    let four = and-split (leb (p .limits .thirty .age) ageTop && leb (p .limits .forty .age) ageTop && leb (p .limits .fifty .age) ageTop) (leb (p .limits .seventy .age) ageTop) (t .1) in
+    let three = three-in (p .limits .thirty .age) ageTop (p .limits .forty .age) ageTop (p .limits .fifty .age) ageTop (four .0) in
+    record {
+      distance = leb-true (p .first .distance) distanceTop (t .0);
+      thirty = three .0;
+      forty = three .1 .0;
+      fifty = three .1 .1;
+      seventy = leb-true (p .limits .seventy .age) ageTop (four .1);
+    }
+
+paired-when : (p : Paired) → PairedIn p → pairedInside p ≡ true
+paired-when p h =
+    rw (
+      le-leb (p .first .distance) distanceTop (h .distance),
+      three-out (p .limits .thirty .age) ageTop (p .limits .forty .age) ageTop (p .limits .fifty .age) ageTop (h .thirty) (h .forty) (h .fifty),
+      le-leb (p .limits .seventy .age) ageTop (h .seventy),
+    )
+
 beside-only : (b : Beside) → besideInside b ≡ true → BesideIn b
 unfolding besideInside
 beside-only b h =
     let t1 : Bool = alongsideInside (b .alongside) in
     let t2 : Bool = t1 && crossingInside (b .crossing) in
-    let h3 = and-split t2 (limitInside (b .limit)) h in
+    let t3 : Bool = t2 && limitInside (b .limit) in
+    let h4 = and-split t3 (pairedInside (b .paired)) h in
+    let h3 = and-split t2 (limitInside (b .limit)) (h4 .0) in
     let h2 = and-split t1 (crossingInside (b .crossing)) (h3 .0) in
     let crossing = two-in (b .crossing .age) ageTop (b .crossing .distance) distanceTop (h2 .1) in
     let limit = two-in (b .limit .age) ageTop (b .limit .steps) stepsTop (h3 .1) in
@@ -51,6 +75,7 @@ beside-only b h =
       alongside = record { age = leb-true (b .alongside .age) ageTop (h2 .0) };
       crossing = record { age = crossing .0; distance = crossing .1 };
       limit = record { age = limit .0; steps = limit .1 };
+      paired = paired-only (b .paired) (h4 .1);
     }
 
 beside-when : (b : Beside) → BesideIn b → besideInside b ≡ true
@@ -60,6 +85,7 @@ beside-when b h =
       le-leb (b .alongside .age) ageTop (h .alongside .age),
       two-out (b .crossing .age) ageTop (b .crossing .distance) distanceTop (h .crossing .age) (h .crossing .distance),
       two-out (b .limit .age) ageTop (b .limit .steps) stepsTop (h .limit .age) (h .limit .steps),
+      paired-when (b .paired) (h .paired),
     )
 
 -- ---- the desk

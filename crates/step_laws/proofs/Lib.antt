@@ -3,6 +3,11 @@ pub mod Walk
 pub mod Facts
 pub mod Parts
 pub mod Carried
+pub mod Four
+pub mod Kept
+pub mod Second
+pub mod LimitPresses
+pub mod Pairs
 pub mod Causes
 pub mod Lamps
 pub mod Ranges

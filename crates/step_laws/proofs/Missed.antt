@@ -8,7 +8,7 @@ use lib.Dec.{eqb}
 use borrow.Author.Tests.{ne-eqb}
 use Rattle.leaf.specs.Choosing.{pick}
 use Rattle.leaf.specs.Numbers.{agedOf, furtherOf, exceedsOf, quietCode}
-use Rattle.card.specs.declared.Settings.{Settings}
+use Rattle.card.specs.declared.Card.{Card}
 use Rattle.card.specs.Card.{reminds}
 use Rattle.signals.specs.declared.window.Waits.the-variants as waits
 use Rattle.signals.specs.declared.control.MainKind.the-variants.{Announcement}
@@ -84,31 +84,31 @@ side-cause false true c = (λ h. (refl, refl), λ h. refl)
 side-cause false false true = (λ h. absurd (omega arith), λ h. absurd (false≢true (h .1)))
 side-cause false false false = (λ h. absurd (omega arith), λ h. absurd (false≢true (h .1)))
 
-module _ (s : Settings) (top : ℕ) (x : Input) (d : Desk) where
+module _ (card : Card) (top : ℕ) (x : Input) (d : Desk) where
   abbrev begins : Turn
-  begins = begun (x .bts) (x .m) (reminds (s .functions)) (s .x) (s .y) d
+  begins = begun (x .bts) (x .m) (reminds (card .settings .functions)) (card .settings .x) (card .settings .y) d
 
   abbrev advances : Turn
-  advances = advanced (x .m) (reminds (s .functions)) (s .x) (s .y) d
+  advances = advanced (x .m) (reminds (card .settings .functions)) (card .settings .x) (card .settings .y) d
 
   -- the stop's cause, 4, and the speed's, 5, come after the misses'
-  moved-miss : (n : ℕ) → 1 ≤ n → n ≤ 3 → (movedOf s top x d .cause ≡ n) ↔ (begins .cause ≡ n)
+  moved-miss : (n : ℕ) → 1 ≤ n → n ≤ 3 → (movedOf card top x d .cause ≡ n) ↔ (begins .cause ≡ n)
   unfolding movedOf beaconTaken
   moved-miss n low high =
-      let e : Desk = atBeacon s top x d in
-      lowest-is _ _ n (pick-later (readsAt s x e && eqb (x .beacon) 8 && not (e .armed .armed)) 4 (omega arith)) low high
+      let e : Desk = atBeacon card top x d in
+      lowest-is _ _ n (pick-later (readsAt card x e && eqb (x .beacon) 8 && not (e .armed .armed)) 4 (omega arith)) low high
 
-  judged-miss : (n : ℕ) → 1 ≤ n → n ≤ 3 → (stepOf s top x d .arose ≡ n) ↔ (movedOf s top x d .cause ≡ n)
+  judged-miss : (n : ℕ) → 1 ≤ n → n ≤ 3 → (stepOf card top x d .arose ≡ n) ↔ (movedOf card top x d .cause ≡ n)
   unfolding stepOf judgedOf aroseOf
   judged-miss n low high = (λ h. at-speed .0 (at-pickup .0 h), λ h. at-pickup .1 (at-speed .1 h))
     where
       turned : Desk
-      turned = crossingTurned (x .m) (movedOf s top x d .desk)
+      turned = crossingTurned (x .m) (movedOf card top x d .desk)
 
-      at-speed : (lowest (movedOf s top x d .cause) (speedCause (x .m) (supervisedOf s top turned)) ≡ n) ↔ (movedOf s top x d .cause ≡ n)
-      at-speed = lowest-is _ _ n (pick-later (exceedsOf (x .m) (supervisedOf s top turned + 500)) 5 (omega arith)) low high
+      at-speed : (lowest (movedOf card top x d .cause) (speedCause (x .m) (supervisedOf (card .settings) top turned)) ≡ n) ↔ (movedOf card top x d .cause ≡ n)
+      at-speed = lowest-is _ _ n (pick-later (exceedsOf (x .m) (supervisedOf (card .settings) top turned + 500)) 5 (omega arith)) low high
 
-      at-pickup : (stepOf s top x d .arose ≡ n) ↔ (lowest (movedOf s top x d .cause) (speedCause (x .m) (supervisedOf s top turned)) ≡ n)
+      at-pickup : (stepOf card top x d .arose ≡ n) ↔ (lowest (movedOf card top x d .cause) (speedCause (x .m) (supervisedOf (card .settings) top turned)) ≡ n)
       at-pickup = lowest-is _ _ n (pick-later (eqb (x .beacon) quietCode && not (x .bts)) 6 (omega arith)) low high
 
   -- no miss in a sample that changes the mode
@@ -124,7 +124,7 @@ module _ (s : Settings) (top : ℕ) (x : Input) (d : Desk) where
           cases false e h = absurd (omega arith)
 
   -- what arises is a miss's cause exactly where the step of ages and misses gives it
-  arises : (n : ℕ) → 1 ≤ n → n ≤ 3 → (stepOf s top x d .arose ≡ n) ↔ ((d .bts ≡ x .bts) × (advances .cause ≡ n))
+  arises : (n : ℕ) → 1 ≤ n → n ≤ 3 → (stepOf card top x d .arose ≡ n) ↔ ((d .bts ≡ x .bts) × (advances .cause ≡ n))
   arises n low high = (
     λ h. begun-miss n low .0 (moved-miss n low high .0 (judged-miss n low high .0 h)),
     λ h. judged-miss n low high .1 (moved-miss n low high .1 (begun-miss n low .1 h)),
@@ -147,27 +147,27 @@ module _ (s : Settings) (top : ℕ) (x : Input) (d : Desk) where
   over-missed : (which : Which) → TimeOver x d which → missedOf (windowOlder (x .m) (windowOf which d)) ≡ true
   over-missed which t = missed-exactly (x .m) (windowOf which d) .1 (t .stands .is-open, t .over)
 
-  cause-1 : (stepOf s top x d .arose ≡ 1) ↔ TimeOver x d main
+  cause-1 : (stepOf card top x d .arose ≡ 1) ↔ TimeOver x d main
   unfolding advanced deskOlder
   cause-1 = (only, when)
     where
-      only : stepOf s top x d .arose ≡ 1 → TimeOver x d main
+      only : stepOf card top x d .arose ≡ 1 → TimeOver x d main
       only h = let a = arises 1 (omega arith) (omega arith) .0 h in missed-over main (a .0) (main-cause main-over side-over reminder-over .0 (a .1))
 
-      when : TimeOver x d main → stepOf s top x d .arose ≡ 1
+      when : TimeOver x d main → stepOf card top x d .arose ≡ 1
       when t = arises 1 (omega arith) (omega arith) .1 (t .stands .mode, main-cause main-over side-over reminder-over .1 (over-missed main t))
 
-  cause-2 : (stepOf s top x d .arose ≡ 2) ↔ (TimeOver x d side × (TimeOver x d main → ⊥))
+  cause-2 : (stepOf card top x d .arose ≡ 2) ↔ (TimeOver x d side × (TimeOver x d main → ⊥))
   unfolding advanced deskOlder
   cause-2 = (only, when)
     where
-      only : stepOf s top x d .arose ≡ 2 → TimeOver x d side × (TimeOver x d main → ⊥)
+      only : stepOf card top x d .arose ≡ 2 → TimeOver x d side × (TimeOver x d main → ⊥)
       only h =
           let a = arises 2 (omega arith) (omega arith) .0 h in
           let q = side-cause main-over side-over reminder-over .0 (a .1) in
           (missed-over side (a .0) (q .1), λ t. false≢true (sym (q .0) ∙ over-missed main t))
 
-      when : TimeOver x d side × (TimeOver x d main → ⊥) → stepOf s top x d .arose ≡ 2
+      when : TimeOver x d side × (TimeOver x d main → ⊥) → stepOf card top x d .arose ≡ 2
       when h =
           let same = h .0 .stands .mode in
           let none : main-over ≡ false = not-so main-over (λ e. h .1 (missed-over main same e)) in
@@ -175,8 +175,8 @@ module _ (s : Settings) (top : ℕ) (x : Input) (d : Desk) where
 
   -- ---- closed, and counted
 
-  miss-closes : (which : Which) → TimeOver x d which → windowOf which (atButtons s x d) ≡ closed
-  miss-closes which t = at-buttons s x d (t .stands .mode) which ∙ over-closed s x d (t .stands .mode) which t
+  miss-closes : (which : Which) → TimeOver x d which → windowOf which (atButtons card x d) ≡ closed
+  miss-closes which t = at-buttons card x d (t .stands .mode) which ∙ over-closed card x d (t .stands .mode) which t
 
   side-missed-main : (c : Bool) (e : Desk) → sideMissed c e .main ≡ e .main
   unfolding sideMissed sideCounts crossingSet
@@ -192,17 +192,17 @@ module _ (s : Settings) (top : ℕ) (x : Input) (d : Desk) where
 
   counts-1 :
       TimeOver x d main → d .window .waits ≡ waits.One
-      → atButtons s x d .main ≡ mainOf Announcement (agedOf (d .window .age)) (furtherOf (d .window .distance) (x .m))
+      → atButtons card x d .main ≡ mainOf Announcement (agedOf (d .window .age)) (furtherOf (d .window .distance) (x .m))
   unfolding advanced reminded deskOlder mainMissed mainCounts takenOver windowOlder
-  counts-1 t w = ap (λ (u : Turn). u .desk .main) (begun-as s x d (t .stands .mode)) ∙ side-missed-main side-over _ ∙ rw (over-missed main t, w)
+  counts-1 t w = ap (λ (u : Turn). u .desk .main) (begun-as card x d (t .stands .mode)) ∙ side-missed-main side-over _ ∙ rw (over-missed main t, w)
 
   counts-9 :
       TimeOver x d side → d .side .waits ≡ waits.Nine
-      → atButtons s x d .beside .crossing ≡ unprotectedSet (agedOf (d .side .age)) (furtherOf (d .side .distance) (x .m)) (crossingOlder (x .m) (d .beside .crossing))
+      → atButtons card x d .beside .crossing ≡ unprotectedSet (agedOf (d .side .age)) (furtherOf (d .side .distance) (x .m)) (crossingOlder (x .m) (d .beside .crossing))
   unfolding advanced reminded deskOlder besideOlder sideMissed sideCounts crossingSet windowOlder
   counts-9 t w =
-      let rest : Desk = reminded (reminds (s .functions)) (s .x) (s .y) (deskOlder (x .m) d) in
-      ap (λ (u : Turn). u .desk .beside .crossing) (begun-as s x d (t .stands .mode)) ∙ rw (over-missed side t, main-missed-side main-over rest, main-missed-crossing main-over rest, w)
+      let rest : Desk = reminded (reminds (card .settings .functions)) (card .settings .x) (card .settings .y) (deskOlder (x .m) d) in
+      ap (λ (u : Turn). u .desk .beside .crossing) (begun-as card x d (t .stands .mode)) ∙ rw (over-missed side t, main-missed-side main-over rest, main-missed-crossing main-over rest, w)
 
-  pub miss-laws : MissLaws s top x d
+  pub miss-laws : MissLaws card top x d
   miss-laws = record { cause-1 = cause-1; cause-2 = cause-2; miss-closes = miss-closes; counts-1 = counts-1; counts-9 = counts-9 }

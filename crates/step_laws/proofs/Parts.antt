@@ -21,13 +21,17 @@ use Rattle.signals.specs.Stop.{noneAlongside, alongsideOlder, alongsideAfter, d
 use Rattle.sides.specs.declared.crossing.Crossing.{Crossing}
 use Rattle.sides.specs.declared.crossing.CrossingOption.{CrossingOption}
 use Rattle.sides.specs.declared.limit.Limit.{Limit}
+use Rattle.sides.specs.declared.pairs.First.{First as FirstOne}
+use Rattle.sides.specs.declared.pairs.PairedLimit.{PairedLimit}
+use Rattle.sides.specs.declared.pairs.Paired.{Paired}
 use Rattle.sides.specs.Crossing.{noCrossing, crossingEnd, iconDistance, isProtected, isUnprotected, crossingOlder, unprotectedSet, protectedSet, turnsAt, turnedAt, noOption, optionNow, optionOlder}
 use Rattle.sides.specs.Limit.{noLimit, limitOlder, limitSet, stepped, hidden}
+use Rattle.sides.specs.Pairs.{isFirst, firstOlder, pairedOlder, fourWith, fourOlder, nothingPaired, allOlder}
 use Rattle.desk.specs.declared.brake.Brake.{Brake}
 use Rattle.desk.specs.declared.beside.Beside.{Beside}
 use Rattle.desk.specs.Brake.{stoodAfter, brakeAge, openingBrake, brakeAfter}
-use Rattle.desk.specs.Beside.{nothingBeside, besideWithAlongside, besideWithCrossing, besideWithLimit, besideOlder}
-use Rattle.step_laws.specs.Ranges.{BrakeIn, MainIn, WindowIn, OverrideIn, ReminderIn, OptionIn, AlongsideIn, CrossingIn, LimitIn, BesideIn}
+use Rattle.desk.specs.Beside.{nothingBeside, besideWithAlongside, besideWithCrossing, besideWithLimit, besideWithPaired, besideOlder}
+use Rattle.step_laws.specs.Ranges.{BrakeIn, MainIn, WindowIn, OverrideIn, ReminderIn, OptionIn, AlongsideIn, CrossingIn, LimitIn, PairedIn, BesideIn}
 use Rattle.step_laws.proofs.Choosing.{pick-has, pick-low}
 
 -- ---- main
@@ -158,15 +162,52 @@ limit-none = record { age = omega arith; steps = omega arith }
 pub limit-older : (l : Limit) → LimitIn l → LimitIn (limitOlder l)
 limit-older l h = record { age = omega arith; steps = h .steps }
 
-pub limit-set : (age : ℕ) (l : Limit) → age ≤ ageTop → LimitIn l → LimitIn (limitSet age l)
+pub limit-set : (answered : Bool) (age : ℕ) (l : Limit) → age ≤ ageTop → LimitIn l → LimitIn (limitSet answered age l)
 unfolding limitSet
-limit-set age l a h = record { age = pick-low ageTop (l .on) {x = l .age} {y = age} (h .age) a; steps = omega arith }
+limit-set answered age l a h = record { age = pick-low ageTop (l .on) {x = l .age} {y = age} (h .age) a; steps = omega arith }
 
 pub limit-stepped : (l : Limit) → LimitIn l → LimitIn (stepped l)
 limit-stepped l h = record { age = h .age; steps = omega arith }
 
 pub limit-hidden : (l : Limit) → LimitIn l → LimitIn (hidden l)
 limit-hidden l h = let s = h .steps in record { age = h .age; steps = omega arith }
+
+-- ---- limit beacons in pairs
+
+pub paired-nothing : PairedIn nothingPaired
+paired-nothing = record { distance = omega arith; thirty = omega arith; forty = omega arith; fifty = omega arith; seventy = omega arith }
+
+older-low : (l : PairedLimit) → l .age ≤ ageTop → pairedOlder l .age ≤ ageTop
+unfolding pairedOlder
+older-low l h = pick-has (λ (k : PairedLimit). k .age ≤ ageTop) (l .on) (omega arith) h
+
+pub paired-older : (m : ℕ) (p : Paired) → PairedIn p → PairedIn (allOlder m p)
+unfolding allOlder firstOlder fourOlder
+paired-older m p h =
+    record {
+      distance = pick-has (λ (f : FirstOne). f .distance ≤ distanceTop) (isFirst (p .first .kind)) (omega arith) (h .distance);
+      thirty = older-low (p .limits .thirty) (h .thirty);
+      forty = older-low (p .limits .forty) (h .forty);
+      fifty = older-low (p .limits .fifty) (h .fifty);
+      seventy = older-low (p .limits .seventy) (h .seventy);
+    }
+
+-- with another in the place of one
+pub paired-first : (p : Paired) (first : FirstOne) → first .distance ≤ distanceTop → PairedIn p → PairedIn (record { first = first; limits = p .limits })
+paired-first p first d h = record { distance = d; thirty = h .thirty; forty = h .forty; fifty = h .fifty; seventy = h .seventy }
+
+pub paired-with : (p : Paired) (first : FirstOne) (speed : ℕ) (l : PairedLimit) → first .distance ≤ distanceTop → l .age ≤ ageTop → PairedIn p
+    → PairedIn (record { first = first; limits = fourWith speed l (p .limits) })
+unfolding fourWith
+paired-with p first speed l d a h =
+    let low : (t : Bool) (k : PairedLimit) → k .age ≤ ageTop → pick t l k .age ≤ ageTop = λ t k b. pick-has (λ (j : PairedLimit). j .age ≤ ageTop) t a b in
+    record {
+      distance = d;
+      thirty = low (eqb speed 30) (p .limits .thirty) (h .thirty);
+      forty = low (eqb speed 40) (p .limits .forty) (h .forty);
+      fifty = low (eqb speed 50) (p .limits .fifty) (h .fifty);
+      seventy = low (eqb speed 70) (p .limits .seventy) (h .seventy);
+    }
 
 -- ---- the desk's parts: the brake, and what stands beside the main control
 
@@ -183,18 +224,21 @@ brake-after cause stays pulses b p =
     }
 
 pub beside-nothing : BesideIn nothingBeside
-beside-nothing = record { alongside = alongside-none; crossing = crossing-none; limit = limit-none }
+beside-nothing = record { alongside = alongside-none; crossing = crossing-none; limit = limit-none; paired = paired-nothing }
 
 pub beside-older : (m : ℕ) (b : Beside) → BesideIn b → BesideIn (besideOlder m b)
 unfolding besideOlder
 beside-older m b h =
-    record { alongside = alongside-older (b .alongside); crossing = crossing-older m (b .crossing); limit = limit-older (b .limit) (h .limit) }
+    record { alongside = alongside-older (b .alongside); crossing = crossing-older m (b .crossing); limit = limit-older (b .limit) (h .limit); paired = paired-older m (b .paired) (h .paired) }
 
 pub beside-alongside : (x : Alongside) (b : Beside) → AlongsideIn x → BesideIn b → BesideIn (besideWithAlongside x b)
-beside-alongside x b p h = record { alongside = p; crossing = h .crossing; limit = h .limit }
+beside-alongside x b p h = record { alongside = p; crossing = h .crossing; limit = h .limit; paired = h .paired }
 
 pub beside-crossing : (x : Crossing) (b : Beside) → CrossingIn x → BesideIn b → BesideIn (besideWithCrossing x b)
-beside-crossing x b p h = record { alongside = h .alongside; crossing = p; limit = h .limit }
+beside-crossing x b p h = record { alongside = h .alongside; crossing = p; limit = h .limit; paired = h .paired }
 
 pub beside-limit : (x : Limit) (b : Beside) → LimitIn x → BesideIn b → BesideIn (besideWithLimit x b)
-beside-limit x b p h = record { alongside = h .alongside; crossing = h .crossing; limit = p }
+beside-limit x b p h = record { alongside = h .alongside; crossing = h .crossing; limit = p; paired = h .paired }
+
+pub beside-paired : (x : Paired) (b : Beside) → PairedIn x → BesideIn b → BesideIn (besideWithPaired x b)
+beside-paired x b p h = record { alongside = h .alongside; crossing = h .crossing; limit = h .limit; paired = p }

@@ -9,7 +9,9 @@ use lib.Dec.{eqb, leb, ltb}
 use borrow.Author.Tests.{eqb-true, ltb-true, ltb-false}
 use Rattle.leaf.specs.Choosing.{pick, and-split}
 use Rattle.leaf.specs.Numbers.{bitOf}
-use Rattle.card.specs.declared.Settings.{Settings}
+use Rattle.card.specs.declared.Card.{Card}
+use Rattle.card.specs.declared.Row.{Row}
+use Rattle.sides.specs.Pairs.{lowestToGo}
 use Rattle.card.specs.Card.{reminds}
 use Rattle.signals.specs.declared.window.Waits.{Waits}
 use Rattle.signals.specs.declared.window.Waits.the-variants.{Nothing, One, Two, Five, Six, Seven, Zone, Nine, Limit}
@@ -19,8 +21,9 @@ use Rattle.desk.specs.declared.state.Desk.{Desk}
 use Rattle.desk.specs.declared.clock.Turn.{Turn}
 use Rattle.desk.specs.State.{takenOver, crossingSet, limitNow}
 use Rattle.desk.specs.Clock.{advanced, begun}
-use Rattle.buttons.specs.Buttons.{answeredBy, mainAnswered, sideAnswered, pressed, optionUsed, limitRemoved, reminderAnswered, overrideArmed, stopIncreased, limitStepped, hidePressed, allPresses, pressesOf}
+use Rattle.buttons.specs.Buttons.{answeredBy, mainAnswered, sideAnswered, pressed, optionUsed, limitRemoved, pairedRemoved, singleFirst, lowestRemoved, reminderAnswered, overrideArmed, stopIncreased, limitStepped, hidePressed, allPresses, pressesOf}
 use Rattle.step.specs.declared.Input.{Input}
+use Rattle.step.specs.Step.{hasPairs}
 use Rattle.step_laws.specs.Walk.{atBeacon, Sets}
 use Rattle.step_laws.specs.Windows.{oneOn}
 use Rattle.step_laws.specs.Unanswered.{Which, main, side, isMain, windowOf, TimeOver, Right, MainTakes, Answers, Unanswered, AnswerLaws, atButtons}
@@ -100,14 +103,14 @@ module _ (reaches : ℕ → Bool) (w : Window) where
 -- ---- the desk's windows
 
 -- the step of mode, ages and misses, in a sample that keeps the mode
-module _ (s : Settings) (x : Input) (d : Desk) (same : d .bts ≡ x .bts) where
-  pub begun-as : begun (x .bts) (x .m) (reminds (s .functions)) (s .x) (s .y) d ≡ advanced (x .m) (reminds (s .functions)) (s .x) (s .y) d
+module _ (card : Card) (x : Input) (d : Desk) (same : d .bts ≡ x .bts) where
+  pub begun-as : begun (x .bts) (x .m) (reminds (card .settings .functions)) (card .settings .x) (card .settings .y) d ≡ advanced (x .m) (reminds (card .settings .functions)) (card .settings .x) (card .settings .y) d
   unfolding begun
   begun-as = rw (same-mode (d .bts) (x .bts) same)
 
-  pub at-buttons : (which : Which) → windowOf which (atButtons s x d) ≡ oneOn (x .m) (windowOf which d)
-  at-buttons main = ap (λ (u : Turn). u .desk .window) begun-as ∙ window-laws .clock-main (x .m) (reminds (s .functions)) (s .x) (s .y) d
-  at-buttons side = ap (λ (u : Turn). u .desk .side) begun-as ∙ window-laws .clock-side (x .m) (reminds (s .functions)) (s .x) (s .y) d
+  pub at-buttons : (which : Which) → windowOf which (atButtons card x d) ≡ oneOn (x .m) (windowOf which d)
+  at-buttons main = ap (λ (u : Turn). u .desk .window) begun-as ∙ window-laws .clock-main (x .m) (reminds (card .settings .functions)) (card .settings .x) (card .settings .y) d
+  at-buttons side = ap (λ (u : Turn). u .desk .side) begun-as ∙ window-laws .clock-side (x .m) (reminds (card .settings .functions)) (card .settings .x) (card .settings .y) d
 
   -- time over is a miss,
   pub over-closed : (which : Which) → TimeOver x d which → oneOn (x .m) (windowOf which d) ≡ closed
@@ -146,17 +149,23 @@ side-answered false weight e = (refl, refl)
 
 -- no other use of a press touches a window
 uses-has : (w v : Window) → Uses (Has w v)
-unfolding optionUsed limitRemoved reminderAnswered overrideArmed stopIncreased limitStepped hidePressed
+unfolding optionUsed limitRemoved pairedRemoved lowestRemoved reminderAnswered overrideArmed stopIncreased limitStepped hidePressed
 uses-has w v =
     record {
       option = step-has (Has w v) optionUsed (λ e h. h) (λ e h. h);
-      removed = step-has (Has w v) limitRemoved (λ e h. h) (λ e h. h);
+      removed = removed;
       answered = step-has (Has w v) reminderAnswered (λ e h. h) (λ e h. h);
       armed = step-has (Has w v) overrideArmed (λ e h. h) (λ e h. h);
       increased = step-has (Has w v) stopIncreased (λ e h. h) (λ e h. h);
       stepped = step-has (Has w v) limitStepped (λ e h. h) (λ e h. h);
       hidden = step-has (Has w v) hidePressed (λ e h. h) (λ e h. h);
     }
+  where
+    removed : (b : Bool) (m : ℕ) (row : Row) (top : ℕ) (e : Desk) → Has w v e → Has w v (lowestRemoved b m row top e)
+    removed true m row top e h =
+        let speed : ℕ = lowestToGo m top (e .beside .paired .limits) in
+        pick-has (Has w v) (singleFirst m row top speed e) h (pick-has (Has w v) (eqb speed 0) h h)
+    removed false m row top e h = h
 
 -- the press of button k
 abbrev on : Input → ℕ → Bool
@@ -179,7 +188,7 @@ press x w v k e h =
 
 -- ---- which press answers
 
-module _ (s : Settings) (top : ℕ) (x : Input) (d : Desk) (same : d .bts ≡ x .bts) where
+module _ (card : Card) (top : ℕ) (x : Input) (d : Desk) (same : d .bts ≡ x .bts) where
   -- the windows before the buttons
   abbrev first : Which → Window
   first which = oneOn (x .m) (windowOf which d)
@@ -187,25 +196,25 @@ module _ (s : Settings) (top : ℕ) (x : Input) (d : Desk) (same : d .bts ≡ x 
   nothing-pressed : x .buttons ≡ 0 → (k : ℕ) → on x k ≡ true → ⊥
   nothing-pressed z k h = false≢true (rw (z, zero-div) at h)
 
-  at-beacon : At x (first main) (first side) 7 (atBeacon s top x d)
+  at-beacon : At x (first main) (first side) 7 (atBeacon card top x d)
   unfolding pressesOf after
   at-beacon = pick-by (At x (first main) (first side) 7) (eqb (x .buttons) 0) none some
     where
-      none : eqb (x .buttons) 0 ≡ true → At x (first main) (first side) 7 (atButtons s x d)
+      none : eqb (x .buttons) 0 ≡ true → At x (first main) (first side) 7 (atButtons card x d)
       none e =
           let z = eqb-true (x .buttons) 0 e in (
-            at-buttons s x d same main ∙ sym (kept (on x) (first main) 7 (λ j l c. nothing-pressed z j (c .0))),
-            at-buttons s x d same side ∙ sym (kept (passes x (first main)) (first side) 7 (λ j l c. nothing-pressed z j (and-split (on x j) _ (c .0) .0))),
+            at-buttons card x d same main ∙ sym (kept (on x) (first main) 7 (λ j l c. nothing-pressed z j (c .0))),
+            at-buttons card x d same side ∙ sym (kept (passes x (first main)) (first side) 7 (λ j l c. nothing-pressed z j (and-split (on x j) _ (c .0) .0))),
           )
 
-      some : eqb (x .buttons) 0 ≡ false → At x (first main) (first side) 7 (allPresses (x .buttons) (x .m) (s .limit) top (atButtons s x d))
-      some e = all-pressed x (At x (first main) (first side)) (press x (first main) (first side)) (λ k. uses-has _ _) _ _ _ _ (at-buttons s x d same main, at-buttons s x d same side)
+      some : eqb (x .buttons) 0 ≡ false → At x (first main) (first side) 7 (allPresses (x .buttons) (x .m) (hasPairs (card .version)) (card .settings .limit) top (atButtons card x d))
+      some e = all-pressed x (At x (first main) (first side)) (press x (first main) (first side)) (λ k. uses-has _ _) _ _ _ _ _ (at-buttons card x d same main, at-buttons card x d same side)
 
   right-of : (which : Which) (k : ℕ) → (TimeOver x d which → ⊥) → on x k ≡ true → answersOf (first which) (2 ^ k) ≡ true → Right x d which k
-  right-of which k n p q = record { pressed = p; waited = rw (older s x d same which n) at q; in-time = n }
+  right-of which k n p q = record { pressed = p; waited = rw (older card x d same which n) at q; in-time = n }
 
   answers-now : (which : Which) (k : ℕ) → Right x d which k → answersOf (first which) (2 ^ k) ≡ true
-  answers-now which k r = rw (older s x d same which (r .in-time)) (r .waited)
+  answers-now which k r = rw (older card x d same which (r .in-time)) (r .waited)
 
   -- the main window, where it has time left
   main-kept : (k : ℕ) → (TimeOver x d main → ⊥) → ((j : ℕ) → Right x d main j → k ≤ j) → after (on x) (first main) k ≡ first main
@@ -229,7 +238,7 @@ module _ (s : Settings) (top : ℕ) (x : Input) (d : Desk) (same : d .bts ≡ x 
       here = kept _ (first main) k (λ j l c. shut (closes _ (first main) k j l c))
 
       in-time : TimeOver x d main → ⊥
-      in-time t = shut (here ∙ over-closed s x d same main t)
+      in-time t = shut (here ∙ over-closed card x d same main t)
 
       lowest : (j : ℕ) → Right x d main j → k ≤ j
       lowest j r = cases (ltb j k) refl
@@ -238,12 +247,12 @@ module _ (s : Settings) (top : ℕ) (x : Input) (d : Desk) (same : d .bts ≡ x 
           cases true e = absurd (shut (closes _ (first main) k j (ltb-true j k e) (r .pressed, answers-now main j r)))
           cases false e = ltb-false j k e
 
-  stays : (which : Which) → Unanswered x d which → windowOf which (atBeacon s top x d) ≡ windowOlder (x .m) (windowOf which d)
+  stays : (which : Which) → Unanswered x d which → windowOf which (atBeacon card top x d) ≡ windowOlder (x .m) (windowOf which d)
   stays main u =
       let n : TimeOver x d main → ⊥ = λ t. let low = t .over in let high = u .time in omega arith in
       at-beacon .0
       ∙ main-kept 7 n (λ j r. absurd (u .no-answer j (record { right = r; free = λ e. absurd (false≢true (ap isMain (sym e))) })))
-      ∙ older s x d same main n
+      ∙ older card x d same main n
   stays side u =
       let n : TimeOver x d side → ⊥ = λ t. let low = t .over in let high = u .time in omega arith in
       at-beacon .1
@@ -254,9 +263,9 @@ module _ (s : Settings) (top : ℕ) (x : Input) (d : Desk) (same : d .bts ≡ x 
         right = right-of side j n (and-split (on x j) _ (c .0) .0) (c .1);
         free = λ e t. not-passed j t (c .0);
       }))
-      ∙ older s x d same side n
+      ∙ older card x d same side n
 
-  answered : (which : Which) (k : ℕ) → Answers x d which k → windowOf which (atBeacon s top x d) ≡ closed
+  answered : (which : Which) (k : ℕ) → Answers x d which k → windowOf which (atBeacon card top x d) ≡ closed
   answered main k a =
       let now = answers-now main k (a .right) in
       at-beacon .0 ∙ closes _ (first main) 7 k (button-low _ k now) (a .right .pressed, now)
@@ -266,9 +275,9 @@ module _ (s : Settings) (top : ℕ) (x : Input) (d : Desk) (same : d .bts ≡ x 
       let free = not-so (answersOf (after (on x) (first main) k) (2 ^ k)) (λ t. a .free refl (taken k p t)) in
       at-beacon .1 ∙ closes _ (first side) 7 k (button-low _ k now) (rw (p, free), now)
 
-pub answer-laws : (s : Settings) (top : ℕ) (x : Input) (d : Desk) (which : Which) → AnswerLaws s top x d which
-answer-laws s top x d which =
+pub answer-laws : (card : Card) (top : ℕ) (x : Input) (d : Desk) (which : Which) → AnswerLaws card top x d which
+answer-laws card top x d which =
     record {
-      stays = λ u. stays s top x d (u .stands .mode) which u;
-      answered = λ k o a. answered s top x d (o .mode) which k a;
+      stays = λ u. stays card top x d (u .stands .mode) which u;
+      answered = λ k o a. answered card top x d (o .mode) which k a;
     }

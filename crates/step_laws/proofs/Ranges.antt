@@ -4,7 +4,7 @@ use native.Mathlib.Omega.{arith}
 use mathlib.Core.Bool.{Bool, true, false}
 use lib.Dec.{eqb}
 use Rattle.leaf.specs.Numbers.{ageTop, distanceTop, codeTop, causeTop}
-use Rattle.card.specs.declared.Settings.{Settings}
+use Rattle.card.specs.declared.Card.{Card}
 use Rattle.signals.specs.declared.window.Waits.the-variants as waits
 use Rattle.signals.specs.declared.window.Window.{Window}
 use Rattle.signals.specs.declared.control.MainKind.the-variants as main
@@ -17,22 +17,24 @@ use Rattle.signals.specs.Windows.{missTime, zoneMiss}
 use Rattle.sides.specs.declared.crossing.Crossing.{Crossing}
 use Rattle.sides.specs.declared.crossing.CrossingOption.{CrossingOption}
 use Rattle.sides.specs.declared.limit.Limit.{Limit}
+use Rattle.sides.specs.declared.pairs.Paired.{Paired}
+use Rattle.sides.specs.Pairs.{noFirst, firstRead, noPaired, pairedNow}
 use Rattle.desk.specs.declared.brake.Brake.{Brake}
 use Rattle.desk.specs.declared.beside.Beside.{Beside}
 use Rattle.desk.specs.declared.state.Desk.{Desk}
 use Rattle.desk.specs.Brake.{openingBrake}
-use Rattle.desk.specs.State.{withBts, withCode, withBrake, withMain, withWindow, withSide, withArmed, withReminder, withOption, withBeside, withAlongside, withCrossing, withLimit, takenOver, crossingSet, limitNow, freshDesk, restingOf, modeChanged}
+use Rattle.desk.specs.State.{withBts, withCode, withBrake, withMain, withWindow, withSide, withArmed, withReminder, withOption, withBeside, withAlongside, withCrossing, withLimit, withPaired, takenOver, crossingSet, limitNow, freshDesk, restingOf, modeChanged}
 use Rattle.desk.specs.Clock.{deskOlder, reminded}
-use Rattle.buttons.specs.Buttons.{optionUsed, limitRemoved, reminderAnswered, overrideArmed, stopIncreased, limitStepped, hidePressed}
-use Rattle.beacons.specs.Beacons.{mainOpened, sideOpened, optionOffered, reading4, remindedAfter, stopped}
+use Rattle.buttons.specs.Buttons.{optionUsed, limitRemoved, pairedRemoved, reminderAnswered, overrideArmed, stopIncreased, limitStepped, hidePressed}
+use Rattle.beacons.specs.Beacons.{mainOpened, sideOpened, optionOffered, reading4, remindedAfter, stopped, firstKept, dropsSingle, singleDropped, pairSet}
 use Rattle.step.specs.declared.Input.{Input}
 use Rattle.step.specs.Speed.{crossingTurned}
 use Rattle.step.specs.Brake.{standingCause, braked}
 use Rattle.step.specs.Step.{movedOf, judgedOf, stepOf}
-use Rattle.step_laws.specs.Ranges.{BrakeIn, MainIn, WindowIn, OverrideIn, ReminderIn, OptionIn, AlongsideIn, CrossingIn, LimitIn, BesideIn, DeskIn, RangeLaws}
-use Rattle.step_laws.proofs.Parts.{brake-opening, brake-after, main-of, main-fresh, main-older, main-increased, window-closed, window-opened, window-older, time-left, override-off, override-now, override-older, reminder-fresh, reminder-older, reminder-reminded, reminder-pressed, option-none, option-now, option-older, alongside-none, alongside-after, crossing-unprotected, crossing-protected, crossing-turned, limit-none, limit-set, limit-stepped, limit-hidden, beside-nothing, beside-older, beside-alongside, beside-crossing, beside-limit}
+use Rattle.step_laws.specs.Ranges.{BrakeIn, MainIn, WindowIn, OverrideIn, ReminderIn, OptionIn, AlongsideIn, CrossingIn, LimitIn, PairedIn, BesideIn, DeskIn, RangeLaws}
+use Rattle.step_laws.proofs.Parts.{paired-first, paired-with, beside-paired, brake-opening, brake-after, main-of, main-fresh, main-older, main-increased, window-closed, window-opened, window-older, time-left, override-off, override-now, override-older, reminder-fresh, reminder-older, reminder-reminded, reminder-pressed, option-none, option-now, option-older, alongside-none, alongside-after, crossing-unprotected, crossing-protected, crossing-turned, limit-none, limit-set, limit-stepped, limit-hidden, beside-nothing, beside-older, beside-alongside, beside-crossing, beside-limit}
 use Rattle.step_laws.specs.Walk.{Sets, ToBeacon, OfBeacon}
-use Rattle.step_laws.proofs.Choosing.{pick-low}
+use Rattle.step_laws.proofs.Choosing.{pick-has, pick-low}
 use Rattle.step_laws.proofs.Walk.{at-beacon, after-beacon}
 use Rattle.step_laws.proofs.Causes.{arose-in}
 use Rattle.step_laws.proofs.Facts.{desk-only, desk-when}
@@ -78,6 +80,9 @@ module _ {d : Desk} (h : DeskIn d) where
 
   set-limit : (x : Limit) → LimitIn x → DeskIn (withLimit x d)
   set-limit x p = set-beside h _ (beside-limit x (d .beside) p (h .beside))
+
+  set-paired : (x : Paired) → PairedIn x → DeskIn (withPaired x d)
+  set-paired x p = set-beside h _ (beside-paired x (d .beside) p (h .beside))
 
 -- ---- whole desks
 
@@ -138,21 +143,24 @@ sets-in =
       taken = λ kind age distance e r h.
           set-main (set-reminder (set-alongside h _ (alongside-after (e .main) (e .beside .alongside) (h .beside .alongside))) _ (reminder-fresh Off)) _ (main-of kind age distance (r .0) (r .1));
       crossing = λ age distance e r h. set-crossing h _ (crossing-unprotected age distance (e .beside .crossing) (r .0) (r .1) (h .beside .crossing));
-      limit = λ age distance e r h. set-limit h _ (limit-set age (e .beside .limit) (r .0) (h .beside .limit));
+      limit = λ age distance e r h. set-limit h _ (limit-set true age (e .beside .limit) (r .0) (h .beside .limit));
     }
 
-module _ (s : Settings) (top : ℕ) (x : Input) (d : Desk) (b : x .beacon ≤ codeTop) (i : DeskIn d) where
-  to-beacon-in : ToBeacon s top x d DeskIn
-  unfolding modeChanged reminded optionUsed limitRemoved reminderAnswered overrideArmed stopIncreased limitStepped hidePressed
+module _ (card : Card) (top : ℕ) (x : Input) (d : Desk) (b : x .beacon ≤ codeTop) (i : DeskIn d) where
+  to-beacon-in : ToBeacon card top x d DeskIn
+  unfolding modeChanged reminded optionUsed limitRemoved pairedRemoved reminderAnswered overrideArmed stopIncreased limitStepped hidePressed
   to-beacon-in =
       record {
         changed = λ e. bare-in (x .bts) (d .code) (d .brake) _ (i .code) (i .brake) (resting-in (x .bts));
-        advanced = λ e. let h = older-in (x .m) d i in set-reminder h _ (reminder-reminded _ _ (s .x) (s .y) _ (h .reminder));
+        advanced = λ e. let h = older-in (x .m) d i in set-reminder h _ (reminder-reminded _ _ (card .settings .x) (card .settings .y) _ (h .reminder));
         main-closed = λ e h. set-window h _ window-closed;
         side-closed = λ e h. set-side h _ window-closed;
         option = λ e h.
             set-option (set-crossing h _ (crossing-protected _ _ true (e .beside .crossing) (h .option .age) (h .option .distance) (h .beside .crossing))) _ option-none;
         removed = λ e h. set-limit h _ limit-none;
+        paired-removed = λ speed e h.
+            pick-has DeskIn (eqb speed 0) h
+            (set-paired h _ (paired-with (e .beside .paired) (e .beside .paired .first) speed noPaired (h .beside .paired .distance) (omega arith) (h .beside .paired)));
         answered = λ e h. set-reminder h _ (reminder-pressed (e .reminder .phase));
         armed = λ e h. set-armed h _ override-now;
         increased = λ e h. set-main h _ (main-increased (e .main) (h .main));
@@ -160,8 +168,8 @@ module _ (s : Settings) (top : ℕ) (x : Input) (d : Desk) (b : x .beacon ≤ co
         hidden = λ e h. set-limit h _ (limit-hidden (e .beside .limit) (h .beside .limit));
       }
 
-  of-beacon-in : OfBeacon s top x d DeskIn DeskIn
-  unfolding stopped reading4 mainOpened sideOpened optionOffered
+  of-beacon-in : OfBeacon card top x d DeskIn DeskIn
+  unfolding stopped reading4 mainOpened sideOpened optionOffered limitNow firstKept firstRead pairSet singleDropped
   of-beacon-in =
       record {
         unread = λ e h. h;
@@ -174,10 +182,15 @@ module _ (s : Settings) (top : ℕ) (x : Input) (d : Desk) (b : x .beacon ≤ co
             (set-armed (set-alongside (set-main (set-reminder h _ (reminded-after-in (e .armed .armed))) _ (main-fresh main.Stop)) _ alongside-none) _ override-off)
             _ window-closed;
         protected = λ e h. set-crossing h _ (crossing-protected 0 0 false (e .beside .crossing) (omega arith) (omega arith) (h .beside .crossing));
+        single = λ e r h. set-limit h _ (limit-set false 0 (e .beside .limit) (omega arith) (h .beside .limit));
+        first = λ code own e three r h. set-paired h _ (paired-first (e .beside .paired) (firstRead code own) (omega arith) (h .beside .paired));
+        pair = λ speed e three r h.
+            set-paired (pick-has DeskIn (dropsSingle (e .beside .paired .first) (e .beside .limit)) (set-limit h _ limit-none) h) _
+            (paired-with (e .beside .paired) noFirst speed pairedNow (omega arith) (omega arith) (h .beside .paired));
         offered = λ e h. set-option h _ option-now;
       }
 
-  moved-in : DeskIn (movedOf s top x d .desk)
+  moved-in : DeskIn (movedOf card top x d .desk)
   moved-in = after-beacon sets-in of-beacon-in (set-code (at-beacon sets-in to-beacon-in) (x .beacon) b)
 
 -- ---- speed and brake
@@ -195,9 +208,9 @@ braked-in : (arose : ℕ) (rearm : Bool) (pulses : ℕ) (d : Desk) → arose ≤
 unfolding braked
 braked-in arose rearm pulses d a h = set-brake h _ (brake-after _ _ pulses (d .brake) (standing-in causeTop (d .brake .cause) arose rearm (h .brake .cause) a))
 
-step-in : (s : Settings) (top : ℕ) (x : Input) (d : Desk) → x .beacon ≤ codeTop → DeskIn d → DeskIn (stepOf s top x d .desk)
+step-in : (card : Card) (top : ℕ) (x : Input) (d : Desk) → x .beacon ≤ codeTop → DeskIn d → DeskIn (stepOf card top x d .desk)
 unfolding stepOf judgedOf
-step-in s top x d b h = braked-in _ _ _ _ (arose-in s top x d) (turned-in (x .m) _ (moved-in s top x d b h))
+step-in card top x d b h = braked-in _ _ _ _ (arose-in card top x d) (turned-in (x .m) _ (moved-in card top x d b h))
 
 pub range-laws : RangeLaws
 range-laws = record { desk-inside = λ d. (desk-only d, desk-when d); fresh-in = fresh-in; step-in = step-in }

@@ -6,6 +6,7 @@ use mathlib.Core.Bool.{true, false≢true}
 use mathlib.Core.Logic.{_⊎_, inl, inr}
 use mathlib.Core.List.{List·Memᴰ, List·Memᴰ·head}
 use Rattle.card.specs.declared.Settings.{Settings}
+use Rattle.card.specs.declared.Card.{Card}
 use Rattle.desk.specs.declared.state.Desk.{Desk}
 use Rattle.step.specs.declared.speed.Standing.{Standing}
 use Rattle.step.specs.declared.Input.{Input}
@@ -27,7 +28,7 @@ module _ (s : Settings) (top : ℕ) where
   unfolding supervisedOf
   speed-below d n l = let low = below none (l .limit) (l .listed) (l .stands) .1 in let e = l .same in omega arith
 
-  speed-among : (d : Desk) → Stands s top d (supervisedOf s top d)
+  pub speed-among : (d : Desk) → Stands s top d (supervisedOf s top d)
   unfolding supervisedOf
   speed-among d = cases (among none (limits s top d))
     where
@@ -38,9 +39,12 @@ module _ (s : Settings) (top : ℕ) where
   speed-only : (d : Desk) (n : ℕ) → Stands s top d n → ((m : ℕ) → Stands s top d m → n ≤ m) → n ≡ supervisedOf s top d
   speed-only d n one least = let a = speed-below d n one in let b = least (supervisedOf s top d) (speed-among d) in omega arith
 
-  speed-answered : (x : Input) (d : Desk) → stepOf s top x d .answer .speed ≡ supervisedOf s top (stepOf s top x d .desk)
+module _ (card : Card) (top : ℕ) where
+  speed-answered : (x : Input) (d : Desk) → stepOf card top x d .answer .speed ≡ supervisedOf (card .settings) top (stepOf card top x d .desk)
   unfolding stepOf judgedOf answerOf braked supervisedOf
   speed-answered x d = refl
 
-  pub speed-laws : SpeedLaws s top
-  speed-laws = record { speed-below = speed-below; speed-among = speed-among; speed-only = speed-only; speed-answered = speed-answered }
+  pub speed-laws : SpeedLaws card top
+  speed-laws =
+      let s = card .settings in
+      record { speed-below = speed-below s top; speed-among = speed-among s top; speed-only = speed-only s top; speed-answered = speed-answered }

@@ -7,7 +7,8 @@ use Rattle.leaf.specs.Choosing.{pick}
 use Rattle.leaf.specs.Numbers.{bitOf}
 use Rattle.leaf.specs.Buttons.{announcementButton, preannouncementButton, cautionButton, crossingButton, limitButton}
 use Rattle.card.specs.declared.Row.{Row}
-use Rattle.card.specs.declared.Settings.{Settings}
+use Rattle.card.specs.declared.Card.{Card}
+use Rattle.card.specs.declared.Pairs.{Pairs}
 use Rattle.card.specs.Card.{protects, zones, reminds, readsInBts}
 use Rattle.signals.specs.declared.window.Waits.{Waits}
 use Rattle.signals.specs.declared.window.Waits.the-variants as waits
@@ -16,18 +17,20 @@ use Rattle.signals.specs.declared.control.MainKind.{MainKind}
 use Rattle.signals.specs.declared.control.MainKind.the-variants as main
 use Rattle.signals.specs.Windows.{closed, asksOf}
 use Rattle.signals.specs.MainControl.{nearOf}
+use Rattle.sides.specs.Limit.{noLimit}
+use Rattle.sides.specs.Pairs.{noFirst, isSecond, lowestToGo, pairedNow, fourWith}
 use Rattle.desk.specs.declared.brake.Brake.{Brake}
 use Rattle.desk.specs.declared.state.Desk.{Desk}
 use Rattle.desk.specs.declared.clock.Turn.{Turn}
-use Rattle.desk.specs.State.{withBrake, withCode, withWindow, withSide, takenOver, crossingSet, limitNow, modeChanged}
+use Rattle.desk.specs.State.{withBrake, withCode, withWindow, withSide, withLimit, withPaired, takenOver, crossingSet, limitNow, modeChanged}
 use Rattle.desk.specs.Clock.{sameMode, deskOlder, reminded, mainCounts, sideCounts, mainMissed, sideMissed, advanced, begun}
-use Rattle.buttons.specs.Buttons.{chosen, answeredBy, mainAnswered, sideAnswered, pressed, freeFor, optionUsed, limitRemoved, reminderAnswered, overrideArmed, stopIncreased, limitStepped, crossingPressed, limitPressed, overridePressed, increasePressed, hidePressed, windowPresses, allPresses, pressesOf}
-use Rattle.beacons.specs.Beacons.{mainOpened, sideOpened, reading1, readingRow, optionOffered, reading3, reading4, zoneOr, zoneMet, reading7, stopped, reading8, reading9, readingLimit, readingOf, readsOf, readIf, beaconTaken}
+use Rattle.buttons.specs.Buttons.{chosen, answeredBy, mainAnswered, sideAnswered, pressed, freeFor, optionUsed, limitRemoved, pairedRemoved, singleFirst, lowestRemoved, reminderAnswered, overrideArmed, stopIncreased, limitStepped, crossingPressed, limitPressed, overridePressed, increasePressed, hidePressed, windowPresses, allPresses, pressesOf}
+use Rattle.beacons.specs.Beacons.{mainOpened, sideOpened, reading1, readingRow, optionOffered, reading3, reading4, zoneOr, zoneMet, reading7, stopped, reading8, reading9, readingSingle, speedOfPair, firstKept, readingFirst, dropsSingle, singleDropped, pairSet, readingSecond, readingPaired, readingLimit, readingOf, readsOf, readIf, beaconTaken}
 use Rattle.step.specs.declared.Input.{Input}
 use Rattle.step.specs.declared.Stepped.{Stepped}
 use Rattle.step.specs.Speed.{crossingTurned, supervisedOf}
 use Rattle.step.specs.Brake.{lowest, braked}
-use Rattle.step.specs.Step.{movedOf, answerOf, judgedOf, stepOf}
+use Rattle.step.specs.Step.{hasPairs, limitGoes, movedOf, answerOf, judgedOf, stepOf}
 use Rattle.step_laws.specs.Walk.{atBeacon}
 use Rattle.step_laws.specs.Unseen.{BrakeUnseen}
 use Rattle.step_laws.proofs.Lamps.{lamps-else}
@@ -89,9 +92,9 @@ module _ (o : Other) where
   unfolding crossingSet
   crossing age distance = record { at = λ d. refl }
 
-  limit : (age : ℕ) → Blind (limitNow age)
+  limit : (answered : Bool) (age : ℕ) → Blind (limitNow answered age)
   unfolding limitNow
-  limit age = record { at = λ d. refl }
+  limit answered age = record { at = λ d. refl }
 
   window : (w : Window) → Blind (withWindow w)
   window w = record { at = λ d. refl }
@@ -146,7 +149,7 @@ module _ (o : Other) where
       either (eqb weight announcementButton) (taken main.Announcement age distance)
       (either (eqb weight preannouncementButton) (taken main.Preannouncement age distance)
       (either (eqb weight cautionButton) (taken main.Caution age distance)
-      (either (eqb weight crossingButton) (crossing age distance) (either (eqb weight limitButton) (limit age) same))))
+      (either (eqb weight crossingButton) (crossing age distance) (either (eqb weight limitButton) (limit true age) same))))
 
   answered-by : (weight : ℕ) (w : Window) → Blind (answeredBy weight w)
   unfolding answeredBy
@@ -174,6 +177,20 @@ module _ (o : Other) where
   unfolding limitRemoved
   limit-removed = taken-or limitRemoved (record { at = λ d. refl }) same
 
+  paired-removed : (speed : ℕ) → Blind (pairedRemoved speed)
+  unfolding pairedRemoved
+  paired-removed speed = either (eqb speed 0) same (record { at = λ d. refl })
+
+  lowest-removed : (t : Bool) (m : ℕ) (row : Row) (top : ℕ) → Blind (lowestRemoved t m row top)
+  unfolding lowestRemoved
+  lowest-removed true m row top =
+      record {
+        at = λ d.
+            let speed : ℕ = lowestToGo m top (d .beside .paired .limits) in
+            either (singleFirst m row top speed d) (limit-removed true) (paired-removed speed) .at d;
+      }
+  lowest-removed false m row top = same
+
   reminder-answered : (t : Bool) → Blind (reminderAnswered t)
   unfolding reminderAnswered
   reminder-answered = taken-or reminderAnswered (record { at = λ d. refl }) same
@@ -200,25 +217,25 @@ module _ (o : Other) where
 
   limit-pressed : (on : Bool) (m : ℕ) (row : Row) (top : ℕ) → Blind (limitPressed on m row top)
   unfolding limitPressed freeFor
-  limit-pressed on m row top = record { at = λ d. (pressed-blind on limitButton then limit-removed _) .at d }
+  limit-pressed on m row top = record { at = λ d. (pressed-blind on limitButton then lowest-removed _ m row top) .at d }
 
   override-pressed : (on : Bool) → Blind (overridePressed on)
   unfolding overridePressed
   override-pressed on = record { at = λ d. (reminder-answered _ then override-armed _) .at d }
 
-  increase-pressed : (on : Bool) (row : Row) (top : ℕ) → Blind (increasePressed on row top)
+  increase-pressed : (on paired : Bool) (row : Row) (top : ℕ) → Blind (increasePressed on paired row top)
   unfolding increasePressed
-  increase-pressed on row top = record { at = λ d. (stop-increased _ then limit-stepped _) .at d }
+  increase-pressed on paired row top = record { at = λ d. (stop-increased _ then limit-stepped _) .at d }
 
-  all-presses : (b m : ℕ) (row : Row) (top : ℕ) → Blind (allPresses b m row top)
+  all-presses : (b m : ℕ) (paired : Bool) (row : Row) (top : ℕ) → Blind (allPresses b m paired row top)
   unfolding allPresses windowPresses
-  all-presses b m row top =
+  all-presses b m paired row top =
       pressed-blind _ _ then pressed-blind _ _ then pressed-blind _ _ then pressed-blind _ _ then pressed-blind _ _
-      then crossing-pressed _ then limit-pressed _ m row top then override-pressed _ then increase-pressed _ row top then hide-pressed _
+      then crossing-pressed _ then limit-pressed _ m row top then override-pressed _ then increase-pressed _ paired row top then hide-pressed _
 
-  presses : (b m : ℕ) (row : Row) (top : ℕ) → Blind (pressesOf b m row top)
+  presses : (b m : ℕ) (paired : Bool) (row : Row) (top : ℕ) → Blind (pressesOf b m paired row top)
   unfolding pressesOf
-  presses b m row top = either (eqb b 0) same (all-presses b m row top)
+  presses b m paired row top = either (eqb b 0) same (all-presses b m paired row top)
 
   -- ---- beacon
 
@@ -262,9 +279,40 @@ module _ (o : Other) where
   unfolding stopped
   stopped-blind = record { at = λ d. refl }
 
-  reading-of : (code : ℕ) (protects zones : Bool) → Blind (readingOf code protects zones)
-  unfolding readingOf reading1 reading3 reading8 reading9 readingLimit
-  reading-of code protects zones =
+  first-kept : (code : ℕ) (own : Bool) → Blind (firstKept code own)
+  unfolding firstKept
+  first-kept code own = record { at = λ d. refl }
+
+  limit-off : Blind (withLimit noLimit)
+  limit-off = record { at = λ d. refl }
+
+  single-dropped : Blind singleDropped
+  unfolding singleDropped
+  single-dropped = record { at = λ d. either (dropsSingle (d .beside .paired .first) (d .beside .limit)) limit-off same .at d }
+
+  pair-set : (speed : ℕ) → Blind (pairSet speed)
+  unfolding pairSet
+  pair-set speed =
+      record {
+        at = λ d.
+            ap (λ (e : Desk). withPaired (record { first = noFirst; limits = fourWith speed pairedNow (d .beside .paired .limits) }) e) (single-dropped .at d);
+      }
+
+  reading-limit : (code : ℕ) (paired : Bool) (pairs : Pairs) → Blind (readingLimit code paired pairs)
+  unfolding readingLimit readingSingle readingPaired readingFirst readingSecond
+  reading-limit code paired pairs =
+      either paired
+      (record {
+        at = λ d.
+            either (isSecond (pairs .distance) (d .beside .paired .first))
+            (side-counts then pair-set (speedOfPair pairs (d .beside .paired .first) code) then side-opened waits.Limit)
+            (side-counts then limit false 0 then first-kept code (not (d .beside .limit .on)) then side-opened waits.Limit) .at d;
+      })
+      (side-counts then limit false 0 then side-opened waits.Limit)
+
+  reading-of : (code : ℕ) (protects zones paired : Bool) (pairs : Pairs) → Blind (readingOf code protects zones paired pairs)
+  unfolding readingOf reading1 reading3 reading8 reading9
+  reading-of code protects zones paired pairs =
       either (eqb code 1) (main-counts then main-opened waits.One)
       (either (eqb code 2) (reading-row main.ConditionalClear waits.Two)
       (either (eqb code 3) (main-counts then taken main.Clear 0 0 then window closed then option-offered protects)
@@ -273,47 +321,47 @@ module _ (o : Other) where
       (either (eqb code 6) (reading-row main.Caution waits.Six)
       (either (eqb code 7) (reading7-blind zones)
       (either (eqb code 8) (main-counts then stopped-blind)
-      (either (eqb code 9) (side-counts then side-opened waits.Nine) (side-counts then limit 0 then side-opened waits.Limit)))))))))
+      (either (eqb code 9) (side-counts then side-opened waits.Nine) (reading-limit code paired pairs)))))))))
 
-  read-if : (t : Bool) (code : ℕ) (protects zones : Bool) → Blind (readIf t code protects zones)
+  read-if : (t : Bool) (code : ℕ) (protects zones paired : Bool) (pairs : Pairs) → Blind (readIf t code protects zones paired pairs)
   unfolding readIf
-  read-if true code protects zones = reading-of code protects zones
-  read-if false code protects zones = same
+  read-if true code protects zones paired pairs = reading-of code protects zones paired pairs
+  read-if false code protects zones paired pairs = same
 
   -- what is not the last code
   abbrev pub Keeps : Type 0
   Keeps = (n : ℕ) → codeOr o n ≡ n
 
   -- the beacon's step looks at the last code, and at no more
-  beacon-turn : Keeps → (code : ℕ) (protects zones f3 : Bool) → Unseen turnWith (beaconTaken code protects zones f3)
+  beacon-turn : Keeps → (code : ℕ) (protects zones f3 paired : Bool) (pairs : Pairs) → Unseen turnWith (beaconTaken code protects zones f3 paired pairs)
   unfolding beaconTaken
-  beacon-turn keeps code protects zones f3 =
+  beacon-turn keeps code protects zones f3 paired pairs =
       record {
         at = λ d.
             let taken : ℕ → Desk → Turn = λ last e.
             record {
-              desk = readIf (readsOf code f3 (d .bts) last) code protects zones e;
+              desk = readIf (readsOf code f3 (d .bts) last) code protects zones paired pairs e;
               cause = pick (readsOf code f3 (d .bts) last && eqb code 8 && not (d .armed .armed)) 4 0;
             } in
             ap (λ (last : ℕ). taken last (withCode code (swapped d))) (keeps (d .code))
             ∙ ap (λ (n : ℕ). taken (d .code) (withCode n (swapped d))) (sym (keeps code))
-            ∙ ap (λ (e : Desk). record { desk = e; cause = beaconTaken code protects zones f3 d .cause })
-            (read-if _ code protects zones .at (withCode code d));
+            ∙ ap (λ (e : Desk). record { desk = e; cause = beaconTaken code protects zones f3 paired pairs d .cause })
+            (read-if _ code protects zones paired pairs .at (withCode code d));
       }
 
   -- ---- all the steps before the speed's
 
-  module _ (s : Settings) (top : ℕ) (x : Input) where
+  module _ (card : Card) (top : ℕ) (x : Input) where
     abbrev first : Desk → Turn
-    first d = begun (x .bts) (x .m) (reminds (s .functions)) (s .x) (s .y) d
+    first d = begun (x .bts) (x .m) (reminds (card .settings .functions)) (card .settings .x) (card .settings .y) d
 
     -- to the beacon
-    pub at-beacon : Blind (atBeacon s top x)
+    pub at-beacon : Blind (atBeacon card top x)
     at-beacon =
         record {
           at = λ d.
-              ap (λ (t : Turn). pressesOf (x .buttons) (x .m) (s .limit) top (t .desk)) (begun-turn _ _ _ _ _ .at d)
-              ∙ presses _ _ _ _ .at (first d .desk);
+              ap (λ (t : Turn). pressesOf (x .buttons) (x .m) (hasPairs (card .version)) (card .settings .limit) top (t .desk)) (begun-turn _ _ _ _ _ .at d)
+              ∙ presses _ _ _ _ _ .at (first d .desk);
         }
 
     pub first-cause : (d : Desk) → first (swapped d) .cause ≡ first d .cause
@@ -322,38 +370,38 @@ module _ (o : Other) where
     -- and with it
     abbrev after : Turn → Turn
     after t =
-        let pressed : Desk = pressesOf (x .buttons) (x .m) (s .limit) top (t .desk) in
-        let read : Turn = beaconTaken (x .beacon) (protects (s .functions)) (zones (s .functions)) (readsInBts (s .functions)) pressed in
+        let pressed : Desk = pressesOf (x .buttons) (x .m) (hasPairs (card .version)) (card .settings .limit) top (t .desk) in
+        let read : Turn = beaconTaken (x .beacon) (protects (card .settings .functions)) (zones (card .settings .functions)) (readsInBts (card .settings .functions)) (hasPairs (card .version)) (card .settings .pairs) pressed in
         record { desk = read .desk; cause = lowest (t .cause) (read .cause) }
 
-    moved-turn : Keeps → Unseen turnWith (movedOf s top x)
+    moved-turn : Keeps → Unseen turnWith (movedOf card top x)
     unfolding movedOf
     moved-turn keeps =
         record {
           at = λ d.
               ap after (begun-turn _ _ _ _ _ .at d)
               ∙ ap (λ (t : Turn). record { desk = t .desk; cause = lowest (first d .cause) (t .cause) })
-              ((presses _ _ _ _ then beacon-turn keeps _ _ _ _) .at (first d .desk));
+              ((presses _ _ _ _ _ then beacon-turn keeps _ _ _ _ _ _) .at (first d .desk));
         }
 
 -- ---- of every sample
 
-module _ (s : Settings) (top : ℕ) (x : Input) (d : Desk) (other : Brake) where
+module _ (card : Card) (top : ℕ) (x : Input) (d : Desk) (other : Brake) where
   abbrev moved : Turn
-  moved = movedOf s top x d
+  moved = movedOf card top x d
 
   -- the steps before the speed's leave the desk that is judged, with the other brake
-  judged : stepOf s top x (withBrake other d) ≡ judgedOf s top x (moved .cause) (withBrake other (moved .desk))
+  judged : stepOf card top x (withBrake other d) ≡ judgedOf (card .settings) top x (moved .cause) (withBrake other (moved .desk))
   unfolding stepOf
-  judged = ap (λ (t : Turn). judgedOf s top x (t .cause) (t .desk)) (moved-turn (other-brake other) s top x (λ n. refl) .at d)
+  judged = ap (λ (t : Turn). judgedOf (card .settings) top x (t .cause) (t .desk)) (moved-turn (other-brake other) card top x (λ n. refl) .at d)
 
-  lamps : (k : ℕ) → (k ≡ 10 → ⊥) → bitOf (stepOf s top x (withBrake other d) .answer .lamps) (2 ^ k) ≡ bitOf (stepOf s top x d .answer .lamps) (2 ^ k)
-  unfolding stepOf judgedOf answerOf crossingTurned braked
+  lamps : (k : ℕ) → (k ≡ 10 → ⊥) → bitOf (stepOf card top x (withBrake other d) .answer .lamps) (2 ^ k) ≡ bitOf (stepOf card top x d .answer .lamps) (2 ^ k)
+  unfolding stepOf judgedOf answerOf limitGoes crossingTurned braked
   lamps k h =
       let turned : Desk = crossingTurned (x .m) (moved .desk) in
       ap (λ (r : Stepped). bitOf (r .answer .lamps) (2 ^ k)) judged ∙ lamps-else k h _ _ _ turned ∙ sym (lamps-else k h _ _ _ turned)
 
-  pub brake-unseen : BrakeUnseen s top x d other
+  pub brake-unseen : BrakeUnseen card top x d other
   unfolding stepOf judgedOf answerOf crossingTurned supervisedOf braked
   brake-unseen =
       record {

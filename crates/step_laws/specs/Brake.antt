@@ -9,7 +9,7 @@ use lib.Dec.{eqb}
 use Rattle.leaf.specs.Choosing.{pick}
 use Rattle.leaf.specs.Numbers.{causeTop, bitOf}
 use Rattle.leaf.specs.Buttons.{rearmButton}
-use Rattle.card.specs.declared.Settings.{Settings}
+use Rattle.card.specs.declared.Card.{Card}
 use Rattle.desk.specs.declared.brake.Brake.{Brake}
 use Rattle.desk.specs.declared.state.Desk.{Desk}
 use Rattle.desk.specs.Brake.{stoodAfter, standstill, brakeAge}
@@ -27,21 +27,21 @@ pub record AtStandstill (pulses : ℕ) (b : Brake) : Type 0 where
 abbrev pub rearms : Input → Desk → Bool
 rearms x d = standstill (x .pulses) (d .brake) && bitOf (x .buttons) rearmButton
 
-module _ (s : Settings) (top : ℕ) (x : Input) (d : Desk) where
+module _ (card : Card) (top : ℕ) (x : Input) (d : Desk) where
   -- the cause that stands after the sample, 0 where the brake is off, and the one that arose in it
   abbrev pub causeAfter : ℕ
-  causeAfter = stepOf s top x d .desk .brake .cause
+  causeAfter = stepOf card top x d .desk .brake .cause
 
   abbrev pub causeArose : ℕ
-  causeArose = stepOf s top x d .arose
+  causeArose = stepOf card top x d .arose
 
   -- 02 b: the count after the sample
   abbrev pub stoodThen : ℕ
-  stoodThen = stepOf s top x d .desk .brake .stood
+  stoodThen = stepOf card top x d .desk .brake .stood
 
   -- 02 f: the age of the brake after the sample
   abbrev pub ageThen : ℕ
-  ageThen = stepOf s top x d .desk .brake .age
+  ageThen = stepOf card top x d .desk .brake .age
 
   pub record BrakeLaws : Type 0 where
     -- 02 b: the sample is one at standstill exactly when the facts hold, and the count goes on with every sample
@@ -51,7 +51,7 @@ module _ (s : Settings) (top : ℕ) (x : Input) (d : Desk) where
     pub age-then : ageThen ≡ brakeAge (staysOn (d .brake .cause) causeAfter) (d .brake .age)
     -- the cause after a sample is the rule's, of the cause before, what arose, and rearm; the answer tells it
     pub cause-after : causeAfter ≡ standingCause (d .brake .cause) causeArose (rearms x d)
-    pub cause-told : stepOf s top x d .answer .cause ≡ causeAfter
+    pub cause-told : stepOf card top x d .answer .cause ≡ causeAfter
     -- what arises is one of the causes 1..6, or 0, none
     pub arose-high : causeArose ≤ causeTop
     -- a cause stands until a rearm takes effect: at standstill, with button 10, and where no cause arose in the sample
@@ -65,4 +65,4 @@ module _ (s : Settings) (top : ℕ) (x : Input) (d : Desk) where
     -- "It goes off in a standstill sample with rearm, if on before and no cause arises."
     pub goes-off : AtStandstill (x .pulses) (d .brake) → bitOf (x .buttons) rearmButton ≡ true → causeArose ≡ 0 → causeAfter ≡ 0
     -- "10 when braked at standstill": lamp 10 is lit exactly when the brake is on after the sample, and the sample is one at standstill
-    pub lamp-10 : (bitOf (stepOf s top x d .answer .lamps) rearmButton ≡ true) ↔ ((causeAfter ≡ 0 → ⊥) × AtStandstill (x .pulses) (d .brake))
+    pub lamp-10 : (bitOf (stepOf card top x d .answer .lamps) rearmButton ≡ true) ↔ ((causeAfter ≡ 0 → ⊥) × AtStandstill (x .pulses) (d .brake))

@@ -1,5 +1,6 @@
 pub mod Ranges
 pub mod Walk
+pub mod Pairs
 pub mod Windows
 pub mod Unanswered
 pub mod Speed

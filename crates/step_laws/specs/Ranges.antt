@@ -6,7 +6,7 @@ use mathlib.Core.Path.{_≡_}
 use mathlib.Core.Bool.{true}
 use mathlib.Core.Logic.{_↔_}
 use Rattle.leaf.specs.Numbers.{ageTop, distanceTop, codeTop, causeTop}
-use Rattle.card.specs.declared.Settings.{Settings}
+use Rattle.card.specs.declared.Card.{Card}
 use Rattle.signals.specs.declared.window.Window.{Window}
 use Rattle.signals.specs.declared.control.Main.{Main}
 use Rattle.signals.specs.declared.stop.Alongside.{Alongside}
@@ -15,6 +15,7 @@ use Rattle.signals.specs.declared.stop.Reminder.{Reminder}
 use Rattle.sides.specs.declared.crossing.Crossing.{Crossing}
 use Rattle.sides.specs.declared.crossing.CrossingOption.{CrossingOption}
 use Rattle.sides.specs.declared.limit.Limit.{Limit}
+use Rattle.sides.specs.declared.pairs.Paired.{Paired}
 use Rattle.sides.specs.Limit.{stepsTop}
 use Rattle.desk.specs.declared.brake.Brake.{Brake}
 use Rattle.desk.specs.declared.beside.Beside.{Beside}
@@ -66,10 +67,19 @@ pub record LimitIn (l : Limit) : Type 0 where
   pub age : l .age ≤ ageTop
   pub steps : l .steps ≤ stepsTop
 
+-- 02 g: "Ranges: paired ages, the first's distance." (g29)
+pub record PairedIn (p : Paired) : Type 0 where
+  pub distance : p .first .distance ≤ distanceTop
+  pub thirty : p .limits .thirty .age ≤ ageTop
+  pub forty : p .limits .forty .age ≤ ageTop
+  pub fifty : p .limits .fifty .age ≤ ageTop
+  pub seventy : p .limits .seventy .age ≤ ageTop
+
 pub record BesideIn (b : Beside) : Type 0 where
   pub alongside : AlongsideIn (b .alongside)
   pub crossing : CrossingIn (b .crossing)
   pub limit : LimitIn (b .limit)
+  pub paired : PairedIn (b .paired)
 
 pub record DeskIn (d : Desk) : Type 0 where
   pub code : d .code ≤ codeTop
@@ -89,5 +99,5 @@ pub record RangeLaws : Type 0 where
   pub desk-inside : (d : Desk) → (deskInside d ≡ true) ↔ DeskIn d
   -- a desk as it opens is inside
   pub fresh-in : DeskIn freshDesk
-  -- what a sample makes of a desk inside is inside, whatever the settings and T are, where the sample's code is in range
-  pub step-in : (s : Settings) (top : ℕ) (x : Input) (d : Desk) → x .beacon ≤ codeTop → DeskIn d → DeskIn (stepOf s top x d .desk)
+  -- what a sample makes of a desk inside is inside, whatever the card and T are, where the sample's code is in range
+  pub step-in : (card : Card) (top : ℕ) (x : Input) (d : Desk) → x .beacon ≤ codeTop → DeskIn d → DeskIn (stepOf card top x d .desk)
