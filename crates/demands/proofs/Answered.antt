@@ -1,17 +1,16 @@
--- Sheet, classifier, opening and sample are answered exactly as demand 1 says.
+-- Sheet, classifier and sample are answered exactly as demand 1 says; and how a card is judged, in plain facts.
 use Prim.Native.Nat.{ℕ}
 use native.Mathlib.Omega.{arith}
-use mathlib.Core.Bool.{Bool, true, false}
+use mathlib.Core.Bool.{Bool, true, false, false≢true}
 use mathlib.Core.List.{List, [], _∷_}
-use mathlib.Core.Path.{_≡_, refl}
+use mathlib.Core.Path.{_≡_, refl, sym, _∙_}
 use lib.Ieee.{Float}
-use Rattle.leaf.specs.Choosing.{pick}
 use Rattle.leaf.specs.Checks.{firstBad, orFault}
 use Rattle.leaf.specs.Answers.{Answer, given, refused, refusedAt}
-use Rattle.card.specs.declared.Settings.{Settings}
-use Rattle.card.specs.Card.{baseKind}
+use Rattle.card.specs.declared.Card.{Card}
+use Rattle.card.specs.Card.{baseKind, known}
 use Rattle.card.specs.Ranges.{checkSettings}
-use Rattle.card.specs.Plain.{SettingsMet, CheckedAs}
+use Rattle.card.specs.Plain.{Known, FirstOut, SettingsMet, CheckedAs}
 use Rattle.card.specs.Plain as plain
 use Rattle.card.proofs.Exactly.{check-exactly}
 use Rattle.tone.specs.declared.Sheet.{Sheet}
@@ -21,11 +20,11 @@ use Rattle.tone.proofs.FirstFault as tone
 use Rattle.session.specs.declared.Sample.{Sample}
 use Rattle.session.specs.declared.Session.{Session}
 use Rattle.session.specs.declared.Sampled.{Sampled}
-use Rattle.session.specs.Types.{typeAllowed}
-use Rattle.session.specs.Session.{openingVersion, freshSession, openedAfter, openSession, refusedBy, sampleOf}
-use Rattle.laws.proofs.Ranges.{session-ranges}
+use Rattle.session.specs.Session.{judgeCard, refusedBy, sampleOf}
+use Rattle.session.proofs.Opening.{judged-known, judged-unknown}
+use Rattle.laws.proofs.Ranges.{known-only, known-when}
 use Rattle.laws.proofs.Refusals.{refusal-laws}
-use Rattle.demands.specs.Demand1.{Exactly, SheetReadAs, ClassifiedAs, TypeMet, OpenedAs, SampledAs}
+use Rattle.demands.specs.Demand1.{Exactly, SheetReadAs, ClassifiedAs, SampledAs}
 use Rattle.demands.specs.Demand1 as paper
 
 -- an answer that is as said, where nothing else is
@@ -66,40 +65,37 @@ tone-only : (area : List ℕ) (t : Float) (a : Answer Reading) → ClassifiedAs 
 tone-only area t a (paper.ClassifiedAs.refused-12 place f) = tone.first-classifier area t place f
 tone-only area t a (paper.ClassifiedAs.reads m) = tone.classifies area t m
 
--- ---- opening
+-- ---- a card, judged: 02 g, "version and settings as the writer does (2, then 5)"
 
-module _ (s : Settings) (train : ℕ) where
-  type-only : typeAllowed train (s .vmax) ≡ true → TypeMet train (s .vmax)
-  type-only e = let t = session-ranges .type-allowed train (s .vmax) .0 e in record { low = t .0; high = t .1 .0; slow = t .1 .1 }
+pub data JudgedAs (card : Card) : Answer Unit → Type 0 where
+  unknown : (Known (card .version) → ⊥) → JudgedAs card (refused 2)
+  out-of-range : Known (card .version) → (at : ℕ) → FirstOut baseKind (card .version) (card .settings) at → JudgedAs card (refusedAt 5 at)
+  fine : Known (card .version) → SettingsMet (card .version) (card .settings) → JudgedAs card (given tt)
 
-  type-when : TypeMet train (s .vmax) → typeAllowed train (s .vmax) ≡ true
-  type-when m = session-ranges .type-allowed train (s .vmax) .1 (m .low, (m .high, m .slow))
-
-  opened-is : OpenedAs s train (openSession s train)
-  unfolding openSession
-  opened-is = judged (checkSettings openingVersion s) (check-exactly openingVersion s _ .0 refl)
+module _ (card : Card) where
+  pub judged-is : JudgedAs card (judgeCard card)
+  judged-is = cases (known (card .version)) refl
     where
-      typed : (t : Bool) → typeAllowed train (s .vmax) ≡ t → SettingsMet openingVersion s
-          → OpenedAs s train (pick t (given (freshSession s train)) (refused 7))
-      typed true e m = paper.OpenedAs.opened m (type-only e)
-      typed false e m = paper.OpenedAs.refused-7 m (λ t. let z : _≡_ {A = ℕ} 0 1 = cc (type-when t) in omega arith)
+      checked : Known (card .version) → (a : Answer Unit) → CheckedAs baseKind (card .version) (card .settings) a → JudgedAs card a
+      checked k a (plain.CheckedAs.out-of-range at f) = out-of-range k at f
+      checked k a (plain.CheckedAs.in-range m) = fine k m
 
-      judged : (a : Answer Unit) → CheckedAs baseKind openingVersion s a → OpenedAs s train (openedAfter a s train)
-      judged a (plain.CheckedAs.out-of-range at f) = paper.OpenedAs.refused-5 at f
-      judged a (plain.CheckedAs.in-range m) = typed (typeAllowed train (s .vmax)) refl m
+      cases : (t : Bool) → known (card .version) ≡ t → JudgedAs card (judgeCard card)
+      cases true e =
+          rw (judged-known card e) (checked (known-only (card .version) e) (checkSettings (card .version) (card .settings)) (check-exactly (card .version) (card .settings) _ .0 refl))
+      cases false e = rw (judged-unknown card e) (unknown (λ k. false≢true (sym e ∙ known-when (card .version) k)))
 
-  in-range : SettingsMet openingVersion s → checkSettings openingVersion s ≡ given tt
-  in-range m = check-exactly openingVersion s (given tt) .1 (plain.CheckedAs.in-range m)
+  by-settings : Known (card .version) → (a : Answer Unit) → CheckedAs baseKind (card .version) (card .settings) a → judgeCard card ≡ a
+  by-settings k a c = judged-known card (known-when (card .version) k) ∙ check-exactly (card .version) (card .settings) a .1 c
 
-  opened-only : (a : Answer Session) → OpenedAs s train a → openSession s train ≡ a
-  unfolding openSession
-  opened-only a (paper.OpenedAs.refused-5 at f) = rw (check-exactly openingVersion s (refusedAt 5 at) .1 (plain.CheckedAs.out-of-range at f))
-  opened-only a (paper.OpenedAs.refused-7 m w) = rw (in-range m) (cases (typeAllowed train (s .vmax)) refl)
+  pub judged-only : (a : Answer Unit) → JudgedAs card a → judgeCard card ≡ a
+  judged-only a (unknown u) = cases (known (card .version)) refl
     where
-      cases : (t : Bool) → typeAllowed train (s .vmax) ≡ t → pick t (given (freshSession s train)) (refused 7) ≡ refused 7
-      cases true e = absurd (w (type-only e))
-      cases false e = refl
-  opened-only a (paper.OpenedAs.opened m t) = rw (in-range m, type-when t)
+      cases : (t : Bool) → known (card .version) ≡ t → judgeCard card ≡ refused 2
+      cases true e = absurd (u (known-only (card .version) e))
+      cases false e = judged-unknown card e
+  judged-only a (out-of-range k at f) = by-settings k (refusedAt 5 at) (plain.CheckedAs.out-of-range at f)
+  judged-only a (fine k m) = by-settings k (given tt) (plain.CheckedAs.in-range m)
 
 -- ---- a sample
 
@@ -137,9 +133,6 @@ sheets-exactly area = exactly (SheetReadAs area) (sheet-is area _ refl) (sheet-o
 
 pub tones-exactly : (area : List ℕ) (t : Float) → Exactly (classifyOf area t) (ClassifiedAs area t)
 tones-exactly area t = exactly (ClassifiedAs area t) (tone-is area t _ refl) (tone-only area t)
-
-pub openings-exactly : (s : Settings) (train : ℕ) → Exactly (openSession s train) (OpenedAs s train)
-openings-exactly s train = exactly (OpenedAs s train) (opened-is s train) (opened-only s train)
 
 pub samples-exactly : (s : Session) (x : Sample) → Exactly (sampleOf s x) (SampledAs s x)
 samples-exactly s x = exactly (SampledAs s x) (sample-is s x) (sample-only s x)

@@ -11,16 +11,13 @@ use Rattle.leaf.specs.Choosing.{pick}
 use Rattle.leaf.specs.Numbers.{codeTop, buttonsTop}
 use Rattle.leaf.specs.Answers.{Answer, given, refused}
 use Rattle.leaf.specs.Bytes.{byte, word, long}
-use Rattle.card.specs.declared.Settings.{Settings}
-use Rattle.card.specs.Plain.{SettingsMet}
-use Rattle.card.specs.Plain as plain
-use Rattle.card.proofs.Exactly.{check-exactly}
+use Rattle.card.specs.declared.Card.{Card}
 use Rattle.step.specs.declared.Answer.{Answer as Told}
 use Rattle.session.specs.declared.Sample.{Sample}
 use Rattle.session.specs.declared.Session.{Session}
 use Rattle.session.specs.declared.Sampled.{Sampled}
 use Rattle.session.specs.Types.{typeAllowed}
-use Rattle.session.specs.Session.{freshSession, openingVersion, openSession, insideOf, refusedBy, ranOf, sampleOf, outcomeOf}
+use Rattle.session.specs.Session.{freshSession, openSession, insideOf, refusedBy, ranOf, sampleOf, outcomeOf}
 use Rattle.session.specs.Runs.{accepted}
 use Rattle.session.proofs.Runs.{accepted-runs, refused-stays}
 use Rattle.session.proofs.Paper.{sample-paper}
@@ -34,6 +31,7 @@ use Rattle.receiver.specs.declared.Status.the-variants.{Open, Refused}
 use Rattle.receiver.proofs.Receivers.{received-none, received-append, shown-append}
 use Rattle.receiver.proofs.SixBytes.{silent, fault, held, kept, unfit, six-taken}
 use Rattle.receiver.proofs.Head.{length-met, met-length, head-kept, head-unfit, head-train, begun}
+use Rattle.laws.specs.Ranges.{CardIn}
 use Rattle.laws.specs.Refusals.{CodesMet}
 use Rattle.laws.proofs.Ranges.{inside-only}
 use Rattle.laws.proofs.Refusals.{refusal-laws}
@@ -41,7 +39,8 @@ use Rattle.demands.specs.Demand1.{Exactly, refusalBy}
 use Rattle.demands.specs.Demand1 as demand
 use Rattle.demands.specs.Pieces.{afterBytes, shownBytes, AllBytes, BeginsGood, HeadAs, sampleIn, Completed, PartAs, statusAfter, Complete, Due}
 use Rattle.demands.specs.Pieces as paper
-use Rattle.demands.proofs.Answered.{exactly, samples-exactly}
+use Rattle.demands.proofs.Answered.{exactly, samples-exactly, judged-only}
+use Rattle.demands.proofs.Answered as judged
 use Rattle.demands.proofs.Line.{stated-low, due-between}
 use Rattle.demands.proofs.Whole.{good-first, good-fits}
 
@@ -99,9 +98,9 @@ begins-0 = record { rest = 0 ∷ 0 ∷ 0 ∷ 6 ∷ 1 ∷ 0 ∷ []; real = (lit< 
 
 -- ---- the head, byte by byte
 
-module _ (settings : Settings) where
+module _ (card : Card) where
   -- one answer
-  head-one : (bytes : List ℕ) (a b : Status) → HeadAs settings bytes a → HeadAs settings bytes b → a ≡ b
+  head-one : (bytes : List ℕ) (a b : Status) → HeadAs card bytes a → HeadAs card bytes b → a ≡ b
   head-one bytes a b (paper.HeadAs.refused-14 none) (paper.HeadAs.refused-14 also) = refl
   head-one bytes a b (paper.HeadAs.refused-14 none) (paper.HeadAs.refused-7 g six o) = absurd (none g)
   head-one bytes a b (paper.HeadAs.refused-14 none) (paper.HeadAs.going g o) = absurd (none g)
@@ -116,43 +115,43 @@ module _ (settings : Settings) where
 
   -- all bytes are in and the head goes on,
   so-far : (bytes : List ℕ) (r : Receiver) → r .status ≡ Open → BeginsGood bytes
-      → (length bytes ≡ 6 → (s : Session) × (openSession settings (trainOf bytes) ≡ given s)) → HeadAs settings bytes (receivedAll r [] .status)
+      → (length bytes ≡ 6 → (s : Session) × (openSession card (trainOf bytes) ≡ given s)) → HeadAs card bytes (receivedAll r [] .status)
   so-far bytes r o g p = rw (received-none r .0, o) (paper.HeadAs.going g p)
 
   -- or one may stand, and the head goes on,
   goes-on : (bytes : List ℕ) (stated taken b : ℕ) (l : List ℕ) → taken < 5 → headFits stated taken b ≡ true
-      → HeadAs settings bytes (receivedAll (begun settings (statedWith stated taken b) (taken + 1)) l .status)
-      → HeadAs settings bytes (receivedAll (begun settings stated taken) (b ∷ l) .status)
+      → HeadAs card bytes (receivedAll (begun card (statedWith stated taken b) (taken + 1)) l .status)
+      → HeadAs card bytes (receivedAll (begun card stated taken) (b ∷ l) .status)
   goes-on bytes stated taken b l h f p =
-      let r = begun settings stated taken in rw (ap (λ (q : Receiver × List (Answer Told)). q .0 .status) (silent r _ b l (head-kept r refl b h f))) p
+      let r = begun card stated taken in rw (ap (λ (q : Receiver × List (Answer Told)). q .0 .status) (silent r _ b l (head-kept r refl b h f))) p
 
   -- or it is 14, and no good recording begins so
   is-14 : (bytes : List ℕ) (stated taken b : ℕ) (l : List ℕ) → taken < 6 → headFits stated taken b ≡ false → (BeginsGood bytes → ⊥)
-      → HeadAs settings bytes (receivedAll (begun settings stated taken) (b ∷ l) .status)
+      → HeadAs card bytes (receivedAll (begun card stated taken) (b ∷ l) .status)
   is-14 bytes stated taken b l h f none =
-      let r = begun settings stated taken in
+      let r = begun card stated taken in
       rw (ap (λ (q : Receiver × List (Answer Told)). q .0 .status) (fault r 14 b l (head-unfit r refl b h f))) (paper.HeadAs.refused-14 none)
 
-  module _ (met : SettingsMet openingVersion settings) where
-    -- settings that are met leave the train type to judge
-    opens-as : (train : ℕ) → openSession settings train ≡ pick (typeAllowed train (settings .vmax)) (given (freshSession settings train)) (refused 7)
+  module _ (met : CardIn card) where
+    -- a card that is met leaves the train type to judge
+    opens-as : (train : ℕ) → openSession card train ≡ pick (typeAllowed train (card .settings .vmax)) (given (freshSession card train)) (refused 7)
     unfolding openSession
-    opens-as train = rw (check-exactly openingVersion settings (given tt) .1 (plain.CheckedAs.in-range met))
+    opens-as train = rw (judged-only card (given tt) (judged.JudgedAs.fine (met .version) (met .settings)))
 
     from-5 : (h l : ℕ) (rest : List ℕ) → lengthFits (h * 256 + l) ≡ true → length rest ≤ 1
-        → HeadAs settings (0 ∷ 0 ∷ h ∷ l ∷ 1 ∷ rest) (receivedAll (begun settings (h * 256 + l) 5) rest .status)
+        → HeadAs card (0 ∷ 0 ∷ h ∷ l ∷ 1 ∷ rest) (receivedAll (begun card (h * 256 + l) 5) rest .status)
     unfolding openedWith byte
-    from-5 h l [] f n = so-far _ (begun settings (h * 256 + l) 5) refl (begins-5 h l f) (λ e. absurd (omega arith))
-    from-5 h l (train ∷ []) f n = typed (typeAllowed train (settings .vmax)) (opens-as train)
+    from-5 h l [] f n = so-far _ (begun card (h * 256 + l) 5) refl (begins-5 h l f) (λ e. absurd (omega arith))
+    from-5 h l (train ∷ []) f n = typed (typeAllowed train (card .settings .vmax)) (opens-as train)
       where
         s : Session
-        s = freshSession settings train
+        s = freshSession card train
 
         at : Receiver
-        at = begun settings (h * 256 + l) 5
+        at = begun card (h * 256 + l) 5
 
-        typed : (t : Bool) → openSession settings train ≡ pick t (given s) (refused 7)
-            → HeadAs settings (0 ∷ 0 ∷ h ∷ l ∷ 1 ∷ train ∷ []) (receivedAll at (train ∷ []) .status)
+        typed : (t : Bool) → openSession card train ≡ pick t (given s) (refused 7)
+            → HeadAs card (0 ∷ 0 ∷ h ∷ l ∷ 1 ∷ train ∷ []) (receivedAll at (train ∷ []) .status)
         typed true o =
             let next = betweenSamples s (h * 256 + l) 6 in
             rw (ap (λ (q : Receiver × List (Answer Told)). q .0 .status) (silent at next train [] (head-train at refl train refl ∙ rw o)))
@@ -163,62 +162,62 @@ module _ (settings : Settings) where
     from-5 h l (train ∷ x ∷ rest) f n = absurd (omega arith)
 
     from-4 : (h l : ℕ) (rest : List ℕ) → lengthFits (h * 256 + l) ≡ true → length rest ≤ 2
-        → HeadAs settings (0 ∷ 0 ∷ h ∷ l ∷ rest) (receivedAll (begun settings (h * 256 + l) 4) rest .status)
+        → HeadAs card (0 ∷ 0 ∷ h ∷ l ∷ rest) (receivedAll (begun card (h * 256 + l) 4) rest .status)
     unfolding headFits statedWith byte
-    from-4 h l [] f n = so-far _ (begun settings (h * 256 + l) 4) refl (begins-4 h l f) (λ e. absurd (omega arith))
+    from-4 h l [] f n = so-far _ (begun card (h * 256 + l) 4) refl (begins-4 h l f) (λ e. absurd (omega arith))
     from-4 h l (v ∷ rest) f n = cases (eqb v 1) refl
       where
-        cases : (t : Bool) → eqb v 1 ≡ t → HeadAs settings (0 ∷ 0 ∷ h ∷ l ∷ v ∷ rest) (receivedAll (begun settings (h * 256 + l) 4) (v ∷ rest) .status)
+        cases : (t : Bool) → eqb v 1 ≡ t → HeadAs card (0 ∷ 0 ∷ h ∷ l ∷ v ∷ rest) (receivedAll (begun card (h * 256 + l) 4) (v ∷ rest) .status)
         cases true e = goes-on _ (h * 256 + l) 4 v rest (lit< tt) e (rw (eqb-true v 1 e) (from-5 h l rest f (omega arith)))
         cases false e = is-14 _ (h * 256 + l) 4 v rest (lit< tt) e (λ g. eqb-false _ _ e (good-met _ (g .good) .version))
 
     from-3 : (h : ℕ) (rest : List ℕ) → h ≤ lengthTop / 256 → length rest ≤ 3
-        → HeadAs settings (0 ∷ 0 ∷ h ∷ rest) (receivedAll (begun settings (h * 256) 3) rest .status)
+        → HeadAs card (0 ∷ 0 ∷ h ∷ rest) (receivedAll (begun card (h * 256) 3) rest .status)
     unfolding headFits statedWith byte
-    from-3 h [] top n = so-far _ (begun settings (h * 256) 3) refl (begins-3 h top) (λ e. absurd (omega arith))
+    from-3 h [] top n = so-far _ (begun card (h * 256) 3) refl (begins-3 h top) (λ e. absurd (omega arith))
     from-3 h (l ∷ rest) top n = cases (lengthFits (h * 256 + l)) refl
       where
         whole : h * 256 / 256 * 256 + l ≡ h * 256 + l
         whole = omega arith
 
-        cases : (t : Bool) → lengthFits (h * 256 + l) ≡ t → HeadAs settings (0 ∷ 0 ∷ h ∷ l ∷ rest) (receivedAll (begun settings (h * 256) 3) (l ∷ rest) .status)
+        cases : (t : Bool) → lengthFits (h * 256 + l) ≡ t → HeadAs card (0 ∷ 0 ∷ h ∷ l ∷ rest) (receivedAll (begun card (h * 256) 3) (l ∷ rest) .status)
         cases true e = goes-on _ (h * 256) 3 l rest (lit< tt) (rw whole e) (rw whole (from-4 h l rest e (omega arith)))
         cases false e =
             is-14 _ (h * 256) 3 l rest (lit< tt) (rw whole e)
             (λ g. let q = ap lengthFits (sym (stated-low _ refl refl)) ∙ good-fits _ (g .good) in let z : _≡_ {A = ℕ} 0 1 = cc in omega arith)
 
-    from-2 : (rest : List ℕ) → length rest ≤ 4 → HeadAs settings (0 ∷ 0 ∷ rest) (receivedAll (begun settings 0 2) rest .status)
+    from-2 : (rest : List ℕ) → length rest ≤ 4 → HeadAs card (0 ∷ 0 ∷ rest) (receivedAll (begun card 0 2) rest .status)
     unfolding headFits statedWith long byte
-    from-2 [] n = so-far _ (begun settings 0 2) refl begins-2 (λ e. absurd (omega arith))
+    from-2 [] n = so-far _ (begun card 0 2) refl begins-2 (λ e. absurd (omega arith))
     from-2 (h ∷ rest) n = cases (leb h (lengthTop / 256)) refl
       where
-        cases : (t : Bool) → leb h (lengthTop / 256) ≡ t → HeadAs settings (0 ∷ 0 ∷ h ∷ rest) (receivedAll (begun settings 0 2) (h ∷ rest) .status)
+        cases : (t : Bool) → leb h (lengthTop / 256) ≡ t → HeadAs card (0 ∷ 0 ∷ h ∷ rest) (receivedAll (begun card 0 2) (h ∷ rest) .status)
         cases true e = goes-on _ 0 2 h rest (lit< tt) e (from-3 h rest (leb-true _ _ e) (omega arith))
         cases false e =
             is-14 _ 0 2 h rest (lit< tt) e
             (λ g. let bytes : List ℕ = 0 ∷ 0 ∷ h ∷ (rest ++ g .rest) in omega (arith, length-met (long bytes 0) (good-fits bytes (g .good)) .1, leb-false h (lengthTop / 256) e))
 
-    from-1 : (rest : List ℕ) → length rest ≤ 5 → HeadAs settings (0 ∷ rest) (receivedAll (begun settings 0 1) rest .status)
+    from-1 : (rest : List ℕ) → length rest ≤ 5 → HeadAs card (0 ∷ rest) (receivedAll (begun card 0 1) rest .status)
     unfolding headFits statedWith byte
-    from-1 [] n = so-far _ (begun settings 0 1) refl begins-1 (λ e. absurd (omega arith))
+    from-1 [] n = so-far _ (begun card 0 1) refl begins-1 (λ e. absurd (omega arith))
     from-1 (b ∷ rest) n = cases (eqb b 0) refl
       where
-        cases : (t : Bool) → eqb b 0 ≡ t → HeadAs settings (0 ∷ b ∷ rest) (receivedAll (begun settings 0 1) (b ∷ rest) .status)
+        cases : (t : Bool) → eqb b 0 ≡ t → HeadAs card (0 ∷ b ∷ rest) (receivedAll (begun card 0 1) (b ∷ rest) .status)
         cases true e = goes-on _ 0 1 b rest (lit< tt) e (rw (eqb-true b 0 e) (from-2 rest (omega arith)))
         cases false e = is-14 _ 0 1 b rest (lit< tt) e (λ g. eqb-false _ _ e (good-first _ (g .good) .1))
 
-    from-0 : (rest : List ℕ) → length rest ≤ 6 → HeadAs settings rest (receivedAll (begun settings 0 0) rest .status)
+    from-0 : (rest : List ℕ) → length rest ≤ 6 → HeadAs card rest (receivedAll (begun card 0 0) rest .status)
     unfolding headFits statedWith byte
-    from-0 [] n = so-far _ (begun settings 0 0) refl begins-0 (λ e. absurd (omega arith))
+    from-0 [] n = so-far _ (begun card 0 0) refl begins-0 (λ e. absurd (omega arith))
     from-0 (a ∷ rest) n = cases (eqb a 0) refl
       where
-        cases : (t : Bool) → eqb a 0 ≡ t → HeadAs settings (a ∷ rest) (receivedAll (begun settings 0 0) (a ∷ rest) .status)
+        cases : (t : Bool) → eqb a 0 ≡ t → HeadAs card (a ∷ rest) (receivedAll (begun card 0 0) (a ∷ rest) .status)
         cases true e = goes-on _ 0 0 a rest (lit< tt) e (rw (eqb-true a 0 e) (from-1 rest (omega arith)))
         cases false e = is-14 _ 0 0 a rest (lit< tt) e (λ g. eqb-false _ _ e (good-first _ (g .good) .0))
 
-pub heads : (settings : Settings) (bytes : List ℕ) → SettingsMet openingVersion settings → length bytes ≤ 6
-    → Exactly (afterBytes settings bytes .status) (HeadAs settings bytes)
-heads settings bytes met n = only (HeadAs settings bytes) (head-one settings bytes) (from-0 settings met bytes n)
+pub heads : (card : Card) (bytes : List ℕ) → CardIn card → length bytes ≤ 6
+    → Exactly (afterBytes card bytes .status) (HeadAs card bytes)
+heads card bytes met n = only (HeadAs card bytes) (head-one card bytes) (from-0 card met bytes n)
 
 -- ---- inside a sample
 
@@ -339,28 +338,28 @@ stops s x e = (rw (refused-stays s x e), rw (refused-stays s x e), rw (refused-s
 -- ---- of every line
 
 -- what is due behind a line is taken from between two samples
-module _ (settings : Settings) (before : List ℕ) (due : Due settings before) where
+module _ (card : Card) (before : List ℕ) (due : Due card before) where
   abbrev now : Session
-  now = afterBytes settings before .session
+  now = afterBytes card before .session
 
   abbrev place : Receiver
   place = betweenSamples now (long before 0) (length before)
 
-  pub received-due : (bytes : List ℕ) → afterBytes settings (before ++ bytes) ≡ receivedAll place bytes
+  pub received-due : (bytes : List ℕ) → afterBytes card (before ++ bytes) ≡ receivedAll place bytes
   received-due bytes =
-      received-append (freshReceiver settings) before bytes ∙ ap (λ (r : Receiver). receivedAll r bytes) (due-between settings before due .0)
+      received-append (freshReceiver card) before bytes ∙ ap (λ (r : Receiver). receivedAll r bytes) (due-between card before due .0)
 
-  pub shown-due : (bytes : List ℕ) → shownBytes settings (before ++ bytes) ≡ shownBytes settings before ++ shownAll place bytes
+  pub shown-due : (bytes : List ℕ) → shownBytes card (before ++ bytes) ≡ shownBytes card before ++ shownAll place bytes
   shown-due bytes =
-      shown-append (freshReceiver settings) before bytes
-      ∙ ap (λ (r : Receiver). shownBytes settings before ++ shownAll r bytes) (due-between settings before due .0)
+      shown-append (freshReceiver card) before bytes
+      ∙ ap (λ (r : Receiver). shownBytes card before ++ shownAll r bytes) (due-between card before due .0)
 
-  part-due : (bytes : List ℕ) → length bytes ≤ 5 → AllBytes bytes → PartAs now bytes (afterBytes settings (before ++ bytes) .status)
+  part-due : (bytes : List ℕ) → length bytes ≤ 5 → AllBytes bytes → PartAs now bytes (afterBytes card (before ++ bytes) .status)
   part-due bytes n real =
-      let b = due-between settings before due in
+      let b = due-between card before due in
       rw (received-due bytes) (part-0 now (long before 0) (b .1) (length before) bytes (b .4) (b .2) (b .3) n real)
 
-  pub samples : (six : List ℕ) → length six ≡ 6 → Complete settings before six now
+  pub samples : (six : List ℕ) → length six ≡ 6 → Complete card before six now
   unfolding byte word turnShows
   samples (a ∷ b ∷ c ∷ d ∷ e ∷ f ∷ []) n = cases (accepted now x) refl
     where
@@ -371,12 +370,12 @@ module _ (settings : Settings) (before : List ℕ) (due : Due settings before) w
       six = a ∷ b ∷ c ∷ d ∷ e ∷ f ∷ []
 
       taken : SampleTaken now (long before 0) (length before) x six
-      taken = let at = due-between settings before due in six-taken now (long before 0) (length before) a b c d e f (at .1) (at .4) (at .2) (at .3)
+      taken = let at = due-between card before due in six-taken now (long before 0) (length before) a b c d e f (at .1) (at .4) (at .2) (at .3)
 
-      told : shownBytes settings (before ++ six) ≡ shownBytes settings before ++ outcomeOf (sampleOf now x .outcome) ∷ []
-      told = shown-due six ∙ ap (λ (l : List (Answer Told)). shownBytes settings before ++ l) (taken .shows ∙ ap (λ (q : Answer Told). q ∷ []) (sym (sample-paper now x)))
+      told : shownBytes card (before ++ six) ≡ shownBytes card before ++ outcomeOf (sampleOf now x .outcome) ∷ []
+      told = shown-due six ∙ ap (λ (l : List (Answer Told)). shownBytes card before ++ l) (taken .shows ∙ ap (λ (q : Answer Told). q ∷ []) (sym (sample-paper now x)))
 
-      cases : (g : Bool) → accepted now x ≡ g → Complete settings before six now
+      cases : (g : Bool) → accepted now x ≡ g → Complete card before six now
       cases true g =
           let all = goes now x g in
           let after = received-due six ∙ taken .goes-on (rw (all .0)) in
@@ -397,8 +396,8 @@ module _ (settings : Settings) (before : List ℕ) (due : Due settings before) w
   samples (a ∷ b ∷ c ∷ d ∷ e ∷ []) n = absurd (omega arith)
   samples (a ∷ b ∷ c ∷ d ∷ e ∷ f ∷ g ∷ l) n = absurd (omega arith)
 
-pub parts : (settings : Settings) (before part : List ℕ) → Due settings before → length part ≤ 5 → AllBytes part
-    → Exactly (afterBytes settings (before ++ part) .status) (PartAs (afterBytes settings before .session) part)
-parts settings before part due n real =
-    let s = afterBytes settings before .session in
-    only (PartAs s part) (part-one s part) (part-due settings before due part n real)
+pub parts : (card : Card) (before part : List ℕ) → Due card before → length part ≤ 5 → AllBytes part
+    → Exactly (afterBytes card (before ++ part) .status) (PartAs (afterBytes card before .session) part)
+parts card before part due n real =
+    let s = afterBytes card before .session in
+    only (PartAs s part) (part-one s part) (part-due card before due part n real)

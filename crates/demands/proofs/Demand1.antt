@@ -2,7 +2,8 @@
 use Rattle.card.proofs.Exactly.{read-exactly, write-exactly}
 use Rattle.card.proofs.Buffer.{refused-leaves}
 use Rattle.demands.specs.Demand1.{Demand1}
-use Rattle.demands.proofs.Answered.{sheets-exactly, tones-exactly, openings-exactly, samples-exactly}
+use Rattle.demands.proofs.Answered.{sheets-exactly, tones-exactly, samples-exactly}
+use Rattle.demands.proofs.Openings.{openings-exactly}
 use Rattle.demands.proofs.Ridden.{rides-exactly}
 
 pub demand-1 : Demand1

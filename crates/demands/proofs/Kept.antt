@@ -3,7 +3,7 @@
 use Prim.Native.Nat.{ℕ}
 use mathlib.Core.Bool.{Bool, true, false, _&&_}
 use mathlib.Core.Path.{_≡_, refl, sym}
-use Rattle.card.specs.declared.Settings.{Settings}
+use Rattle.card.specs.declared.Card.{Card}
 use Rattle.card.specs.Card.{reminds}
 use Rattle.signals.specs.declared.control.Main.{Main}
 use Rattle.signals.specs.declared.stop.Phase.{Phase}
@@ -11,15 +11,18 @@ use Rattle.signals.specs.declared.stop.Phase.the-variants.{Off, Due, First, Pre
 use Rattle.signals.specs.declared.stop.Reminder.{Reminder}
 use Rattle.signals.specs.Stop.{isLit, isPressed, pressedOf, reminderOlder, firstMet, reminderMissed, secondMet, remindedOf}
 use Rattle.desk.specs.declared.state.Desk.{Desk}
-use Rattle.desk.specs.State.{takenOver, crossingSet, limitNow, modeChanged}
+use Rattle.desk.specs.State.{withLimit, takenOver, crossingSet, limitNow, modeChanged}
 use Rattle.desk.specs.Clock.{sameMode, deskOlder, reminded}
-use Rattle.buttons.specs.Buttons.{optionUsed, limitRemoved, reminderAnswered, overrideArmed, stopIncreased, limitStepped, hidePressed}
-use Rattle.beacons.specs.Beacons.{mainOpened, sideOpened, optionOffered, reading4, remindedAfter, stopped}
+use Rattle.buttons.specs.Buttons.{optionUsed, limitRemoved, pairedRemoved, reminderAnswered, overrideArmed, stopIncreased, limitStepped, hidePressed}
+use Rattle.beacons.specs.Beacons.{mainOpened, sideOpened, optionOffered, reading4, remindedAfter, stopped, firstKept, dropsSingle, singleDropped, pairSet}
+use Rattle.sides.specs.Limit.{noLimit}
 use Rattle.step.specs.declared.Input.{Input}
 use Rattle.step.specs.Speed.{crossingTurned}
 use Rattle.step.specs.Brake.{braked}
 use Rattle.step.specs.Step.{judgedOf, stepOf}
 use Rattle.step_laws.specs.Walk.{Sets, ToBeacon, OfBeacon}
+use lib.Dec.{eqb}
+use Rattle.step_laws.proofs.Choosing.{pick-has}
 use Rattle.step_laws.proofs.Walk.{AnyReading, sets-any, at-beacon, after-beacon}
 
 -- a reminder whose settings are not looked at: off, or due and not yet lit
@@ -72,17 +75,17 @@ sets-calm : Sets Calm AnyReading
 unfolding takenOver crossingSet limitNow
 sets-calm = sets-any (λ kind age distance e h. refl) (λ age distance e h. h) (λ age e h. h)
 
-module _ (s : Settings) (top : ℕ) (x : Input) (d : Desk)
+module _ (card : Card) (top : ℕ) (x : Input) (d : Desk)
     (quiet : calm (d .reminder .phase) ≡ true)
     (dark : (sameMode (d .bts) (x .bts) && firstMet (deskOlder (x .m) d .main) (deskOlder (x .m) d .reminder)) ≡ false) where
-  advanced-calm : sameMode (d .bts) (x .bts) ≡ true → Calm (reminded (reminds (s .functions)) (s .x) (s .y) (deskOlder (x .m) d))
+  advanced-calm : sameMode (d .bts) (x .bts) ≡ true → Calm (reminded (reminds (card .settings .functions)) (card .settings .x) (card .settings .y) (deskOlder (x .m) d))
   unfolding reminded deskOlder reminderOlder
   advanced-calm e =
       let old : Desk = deskOlder (x .m) d in
-      rw (stays-calm (old .main) (reminds (s .functions)) (s .x) (s .y) (old .reminder) quiet (rw e at dark)) quiet
+      rw (stays-calm (old .main) (reminds (card .settings .functions)) (card .settings .x) (card .settings .y) (old .reminder) quiet (rw e at dark)) quiet
 
-  to-beacon-calm : ToBeacon s top x d Calm
-  unfolding modeChanged optionUsed limitRemoved reminderAnswered overrideArmed stopIncreased limitStepped hidePressed
+  to-beacon-calm : ToBeacon card top x d Calm
+  unfolding modeChanged optionUsed limitRemoved pairedRemoved reminderAnswered overrideArmed stopIncreased limitStepped hidePressed
   to-beacon-calm =
       record {
         changed = λ e. refl;
@@ -91,6 +94,7 @@ module _ (s : Settings) (top : ℕ) (x : Input) (d : Desk)
         side-closed = λ e h. h;
         option = λ e h. h;
         removed = λ e h. h;
+        paired-removed = λ speed e h. pick-has Calm (eqb speed 0) h h;
         answered = λ e h. press-calm (e .reminder .phase) h;
         armed = λ e h. h;
         increased = λ e h. h;
@@ -98,8 +102,8 @@ module _ (s : Settings) (top : ℕ) (x : Input) (d : Desk)
         hidden = λ e h. h;
       }
 
-  of-beacon-calm : OfBeacon s top x d Calm Calm
-  unfolding mainOpened sideOpened stopped reading4 optionOffered
+  of-beacon-calm : OfBeacon card top x d Calm Calm
+  unfolding mainOpened sideOpened stopped reading4 optionOffered limitNow firstKept pairSet singleDropped
   of-beacon-calm =
       record {
         unread = λ e h. h;
@@ -109,10 +113,13 @@ module _ (s : Settings) (top : ℕ) (x : Input) (d : Desk)
         shut = λ e r c h. h;
         stop = λ e r c h. after-8 (e .armed .armed);
         protected = λ e h. h;
+        single = λ e r h. h;
+        first = λ code own e three r h. h;
+        pair = λ speed e three r h. pick-has Calm (dropsSingle (e .beside .paired .first) (e .beside .limit)) {x = withLimit noLimit e} {y = e} h h;
         offered = λ e h. h;
       }
 
   -- the reminder after the sample
-  pub calm-after : calm (stepOf s top x d .desk .reminder .phase) ≡ true
+  pub calm-after : calm (stepOf card top x d .desk .reminder .phase) ≡ true
   unfolding stepOf judgedOf crossingTurned braked
   calm-after = after-beacon sets-calm of-beacon-calm (at-beacon sets-calm to-beacon-calm)

@@ -111,13 +111,13 @@ record Answers : Type 0 where
   read-4 : readCard (card-A 0x26 0x01 79) 1 ≡ refused 4
   fault-3 : faultOf (byte (card-A 0x26 0x01 79) 2) (settingsOf (card-A 0x26 0x01 79)) ≡ 3
   write-3 : writeCard 1 (cardA-at 79) 39 ≡ refusedAt 5 3
-  -- and version 3
-  write-2 : writeCard 3 (cardA-at 79) 39 ≡ refused 2
-  version-3 : faultOf 3 (cardA-at 79) ≡ 3
+  -- and version 4
+  write-2 : writeCard 4 (cardA-at 79) 39 ≡ refused 2
+  version-4 : faultOf 4 (cardA-at 79) ≡ 3
 
 answers : Answers
 unfolding readCard writeCard answerBy orFault settingsFault faultOf settingsFrom functionsFrom rowAt byte word
-answers = record { read-3 = refl; read-4 = refl; fault-3 = refl; write-3 = refl; write-2 = refl; version-3 = refl }
+answers = record { read-3 = refl; read-4 = refl; fault-3 = refl; write-3 = refl; write-2 = refl; version-4 = refl }
 
 module _ (read : List ℕ → ℕ → Answer Settings) (exact : ReadsExactly read) where
   as-ours : (area : List ℕ) (h : ℕ) → read area h ≡ readCard area h
@@ -140,7 +140,7 @@ cards-out =
       bare-writer-passes = λ v s room. bare-first (writeCard v s room) (write-5 v s room) (writer v s room);
       bare-writer-out = λ x. let e : _≡_ {A = Answer Unit} (refused 5) (refusedAt 5 3) = rw (answers .write-3) at (as-written bareWriter x 1 (cardA-at 79) 39) in never (cc);
       eager-writer-passes = λ v s room. eager-first (faultOf v s) (writeCard v s room) (λ m. met-fault v s (m .settings)) (fault-first v s) (writer v s room);
-      eager-writer-out = λ x. let e : _≡_ {A = Answer Unit} (refusedAt 5 3) (refused 2) = rw (answers .version-3, answers .write-2) at (as-written eagerWriter x 3 (cardA-at 79) 39) in never (cc);
+      eager-writer-out = λ x. let e : _≡_ {A = Answer Unit} (refusedAt 5 3) (refused 2) = rw (answers .version-4, answers .write-2) at (as-written eagerWriter x 4 (cardA-at 79) 39) in never (cc);
       willing-writer-passes = λ v s room. record { met = λ m. refl; number = λ n e. absurd (never (cc)); place = λ n at e. absurd (never (cc)) };
-      willing-writer-out = λ x. let e : _≡_ {A = Answer Unit} (given tt) (refused 2) = rw (answers .write-2) at (as-written willingWriter x 3 (cardA-at 79) 39) in never (cc);
+      willing-writer-out = λ x. let e : _≡_ {A = Answer Unit} (given tt) (refused 2) = rw (answers .write-2) at (as-written willingWriter x 4 (cardA-at 79) 39) in never (cc);
     }

@@ -4,14 +4,13 @@ use native.Mathlib.Omega.{arith}
 use mathlib.Core.List.{[], _∷_}
 use mathlib.Core.Path.{_≡_, refl}
 use borrow.Author.Tests.{ne-eqb}
-use Rattle.card.specs.CardA.{cardA}
 use Rattle.session.specs.declared.Sample.{Sample}
 use Rattle.session.specs.declared.Session.{Session}
 use Rattle.session.specs.Session.{freshSession, refusedBy}
 use Rattle.session.specs.Runs.{after}
 use Rattle.step_laws.specs.Quiet.{judgedBefore, stepBefore}
 use Rattle.laws.proofs.Refusals.{refusal-laws}
-use Rattle.demands.specs.Examples.{conv, bts}
+use Rattle.demands.specs.Examples.{conv, bts, cardOfA}
 use Rattle.demands.specs.Quiet.{steppedBefore, Arisen, Raises}
 use Rattle.demands.specs.Quiet as paper
 use Rattle.demands.specs.Lazy.{RaisesAtChange, atChange, CausesOut}
@@ -23,7 +22,7 @@ change-passes s x a changed = rw (ne-eqb (x .beacon) (s .desk .code) changed) (a
 
 -- card A, type 6: quiet in BTS, and the mode changed while it is
 abbrev quiet-in-bts : Session
-quiet-in-bts = after (freshSession cardA 6) (bts 0 0 0 ∷ bts 0 12 0 ∷ [])
+quiet-in-bts = after (freshSession cardOfA 6) (bts 0 0 0 ∷ bts 0 12 0 ∷ [])
 
 abbrev leaving : Sample
 leaving = conv 0 12 0

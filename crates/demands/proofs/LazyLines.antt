@@ -8,13 +8,13 @@ use lib.ListN.{length}
 use lib.Seq.{take-all}
 use Rattle.leaf.specs.Answers.{Answer, given, refused}
 use Rattle.leaf.specs.Bytes.{long}
-use Rattle.card.specs.CardA.{cardA}
 use Rattle.step.specs.declared.Answer.{Answer as Told}
 use Rattle.rides.specs.Recording.{samplesIn, placeOf}
 use Rattle.rides.proofs.Recordings.{good-met}
 use Rattle.receiver.specs.Receiver.{betweenSamples}
 use Rattle.receiver.specs.declared.Receiver.{Receiver}
 use Rattle.receiver.specs.declared.Status.the-variants.{Refused}
+use Rattle.demands.specs.Examples.{cardOfA}
 use Rattle.demands.specs.Pieces.{afterBytes, shownBytes, AllBytes, one}
 use Rattle.demands.specs.Lazy.{ShowsWhole, ShowsAtOnce, RefusesAtOnce, ours, collects, waits, LinesOut}
 use Rattle.demands.proofs.Line.{due-between}
@@ -44,7 +44,7 @@ ours-refuses s before part due few real nine =
 collects-out : ShowsAtOnce collects → ⊥
 collects-out x =
     let c = computed in
-    let none = x cardA whole 1 0 (c .opened) refl (lit< tt) (c .going) (c .opens) in
+    let none = x cardOfA whole 1 0 (c .opened) refl (lit< tt) (c .going) (c .opens) in
     let z : _≡_ {A = ℕ} 0 1 = ap length none ∙ c .one-answer in
     omega arith
 
@@ -66,8 +66,8 @@ waits-out : RefusesAtOnce waits → ⊥
 waits-out x =
     let c = computed in
     let real : AllBytes unfit = (lit< tt, (lit< tt, (lit< tt, (lit< tt, tt)))) in
-    let nine = parts cardA (one []) unfit (c .due) (lit≤ tt) real (Refused 9) .0 (c .refused-9) in
-    let told = x cardA (one []) unfit (c .due) (lit≤ tt) real nine in
+    let nine = parts cardOfA (one []) unfit (c .due) (lit≤ tt) real (Refused 9) .0 (c .refused-9) in
+    let told = x cardOfA (one []) unfit (c .due) (lit≤ tt) real nine in
     let z : _≡_ {A = ℕ} 0 1 = sym (ap length (c .waits-on)) ∙ ap length told ∙ ap (λ (l : List (Answer Told)). length (l ++ refused 9 ∷ [])) (c .waits-before) in
     omega arith
 

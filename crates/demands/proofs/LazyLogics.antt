@@ -5,7 +5,6 @@ use mathlib.Core.List.{List, [], _∷_, map}
 use mathlib.Core.Path.{_≡_, refl, ap, sym, _∙_}
 use Rattle.leaf.specs.Answers.{Answer, given, refused, refusedAt}
 use Rattle.leaf.specs.declared.Refusal.the-variants.{Number}
-use Rattle.card.specs.CardA.{cardA}
 use Rattle.step.specs.declared.Answer.{Answer as Told}
 use Rattle.session.specs.declared.Sample.{Sample}
 use Rattle.session.specs.declared.Session.{Session}
@@ -13,7 +12,7 @@ use Rattle.session.specs.declared.Sampled.{Sampled}
 use Rattle.session.specs.declared.Outcome.{Outcome}
 use Rattle.session.specs.declared.Outcome.the-variants.{Answered, Refused}
 use Rattle.session.specs.Session.{freshSession, sampleOf}
-use Rattle.demands.specs.Examples.{conv, shows}
+use Rattle.demands.specs.Examples.{conv, shows, cardOfA}
 use Rattle.demands.specs.Demand1.{SampledAs}
 use Rattle.demands.specs.Demand1 as paper
 use Rattle.demands.specs.ShutOut.{document01, answersIn, All, OneSpeed, Repeated, Repeats}
@@ -86,7 +85,7 @@ logics-out =
 
 -- a sample that is accepted, and one that no session accepts
 abbrev fresh : Session
-fresh = freshSession cardA 6
+fresh = freshSession cardOfA 6
 
 abbrev standing : Sample
 standing = conv 0 0 0

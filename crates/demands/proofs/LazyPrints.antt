@@ -10,7 +10,6 @@ use borrow.Author.Tests.{eqb-true}
 use Rattle.leaf.specs.Choosing.{pick}
 use Rattle.leaf.specs.Bytes.{byte, long}
 use Rattle.card.specs.Card.{reminds, speaks}
-use Rattle.card.specs.Reading.{settingsOf}
 use Rattle.rides.specs.Recording.{goodRecording, samplesFrom}
 use Rattle.rides.specs.Ride.{startRide}
 use Rattle.text.specs.Decimal.{newline, upperOf, lowerOf, decimal}
@@ -25,13 +24,15 @@ use Rattle.demands.proofs.Demand3.{demand-3, hypotheses-met}
 -- the version speaks, and the functions of version 2 do
 version-speaks : (version functions : ℕ) → speaks version functions 2 ≡ true
 unfolding speaks
-version-speaks version functions = cases (eqb version 1) (reminds functions)
+version-speaks version functions = cases (eqb version 1) (eqb version 2) (reminds functions)
   where
-    cases : (t u : Bool) → (ltb 2 (pick t 39 44) && (u || true)) ≡ true
-    cases true true = refl
-    cases true false = refl
-    cases false true = refl
-    cases false false = refl
+    cases : (t v u : Bool) → (ltb 2 (pick t 39 (pick v 44 49)) && (u || true)) ≡ true
+    cases true v true = refl
+    cases true v false = refl
+    cases false true true = refl
+    cases false true false = refl
+    cases false false true = refl
+    cases false false false = refl
 
 functions-speak : (functions : ℕ) → speaks 2 functions 39 ≡ true
 unfolding speaks
@@ -65,14 +66,14 @@ below at text = getD text at 0
 version-out : VersionsPrint versionBelow → ⊥
 unfolding definitions below printedRide printedAs cardText startedText startRide goodRecording long refusedLine decimal upperOf lowerOf
 version-out h =
-    let e = h Paper card-P card-P2 [] (settingsOf card-P) (settingsOf card-P2) refl refl (hypotheses-met .same-P) in
+    let e = h Paper card-P card-P2 [] _ _ refl refl (hypotheses-met .same-P) in
     let z : _≡_ {A = ℕ} 1 2 = ap (below 31) e in
     omega arith
 
 functions-out : FunctionsPrint functionsAbove → ⊥
 unfolding definitions below firstLines samplesFrom
 functions-out h =
-    let e = h Paper (R 0x0F) quiet-R [] (settingsOf (R 0x0F)) (settingsOf quiet-R) refl refl (hypotheses-met .same-R) in
+    let e = h Paper (R 0x0F) quiet-R [] _ _ refl refl (hypotheses-met .same-R) in
     let z : _≡_ {A = ℕ} 0x0F 0x0B = ap (below 0) e in
     omega arith
 

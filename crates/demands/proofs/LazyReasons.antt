@@ -18,7 +18,7 @@ use Rattle.session.specs.declared.Told.the-variants as asked
 use Rattle.session.specs.declared.Asked.{Asked}
 use Rattle.session.specs.Session.{freshSession}
 use Rattle.session.specs.Why.{whyNow, askedOf}
-use Rattle.step_laws.specs.Reason.{Limits}
+use Rattle.step_laws.specs.Reason.{reasonPlace, Limits}
 use Rattle.step_laws.proofs.Reason.{Sets, limits-member, member-limits}
 use Rattle.laws.specs.Unanswered.{topOf}
 use Rattle.demands.specs.Examples.{conv}
@@ -59,15 +59,15 @@ last-stands speed l (List·Memᴰ·tail {x = x} {xs = rest} m) h = rw (last-stan
 
 -- ---- it passes
 
-last-met : (t : Session) (speed number age : ℕ) → Limits (t .settings) (topOf t) (t .desk) number speed age
-    → (let l = lastAt speed (limits (t .settings) (topOf t) (t .desk)) in Limits (t .settings) (topOf t) (t .desk) (reasonNumber (l .reason)) speed (l .age))
+last-met : (t : Session) (speed number age : ℕ) → Limits (t .card .settings) (topOf t) (t .desk) number speed age
+    → (let l = lastAt speed (limits (t .card .settings) (topOf t) (t .desk)) in Limits (t .card .settings) (topOf t) (t .desk) (reasonPlace (l .reason)) speed (l .age))
 last-met t speed number age h =
-    let one = limits-member (t .settings) (topOf t) (t .desk) h in
+    let one = limits-member (t .card .settings) (topOf t) (t .desk) h in
     let stands = last-stands speed (one .0) (one .1 .0) (one .1 .1) in
-    let last = lastAt speed (limits (t .settings) (topOf t) (t .desk)) in
-    let found = last-one speed (limits (t .settings) (topOf t) (t .desk)) stands in
-    subst (λ (v : ℕ). Limits (t .settings) (topOf t) (t .desk) (reasonNumber (last .reason)) v (last .age)) (found .1)
-    (member-limits (t .settings) (topOf t) (t .desk) last (found .0) stands)
+    let last = lastAt speed (limits (t .card .settings) (topOf t) (t .desk)) in
+    let found = last-one speed (limits (t .card .settings) (topOf t) (t .desk)) stands in
+    subst (λ (v : ℕ). Limits (t .card .settings) (topOf t) (t .desk) (reasonPlace (last .reason)) v (last .age)) (found .1)
+    (member-limits (t .card .settings) (topOf t) (t .desk) last (found .0) stands)
 
 never-reasoned : {why : _} {r : Reasoned} → asked.Refused why ≡ asked.Reasoned r → ⊥
 never-reasoned h = let z : _≡_ {A = ℕ} 0 1 = cc in omega arith
@@ -79,10 +79,10 @@ last-passes : NamesStanding namesLast
 last-passes s x r h = cases (askedOf s x) (asked-exactly s x (askedOf s x) .0 refl) h
   where
     cases : (a : Asked) → AskedAs s x a → lastNamed (a .session) (a .told) ≡ asked.Reasoned r
-        → Limits (a .session .settings) (topOf (a .session)) (a .session .desk) (reasonNumber (r .why .reason)) (r .answer .speed) (r .why .age)
+        → Limits (a .session .card .settings) (topOf (a .session)) (a .session .desk) (reasonPlace (r .why .reason)) (r .answer .speed) (r .why .age)
     cases _ (paper.AskedAs.refused-by n p) h = absurd (never-reasoned h)
     cases _ (paper.AskedAs.reasoned t a w p met) h =
-        subst (λ (q : Reasoned). Limits (t .settings) (topOf t) (t .desk) (reasonNumber (q .why .reason)) (q .answer .speed) (q .why .age)) (reasoned-is h)
+        subst (λ (q : Reasoned). Limits (t .card .settings) (topOf t) (t .desk) (reasonPlace (q .why .reason)) (q .answer .speed) (q .why .age)) (reasoned-is h)
         (last-met t (a .speed) _ _ (met .true-one .stands))
 
 -- ---- card A with 100 km/h in limit and start rows, 50/10: 4, and it says 7

@@ -6,11 +6,11 @@ use mathlib.Core.List.{List, [], _∷_}
 use mathlib.Core.Path.{_≡_, refl, sym, _∙_}
 use Rattle.leaf.specs.Bytes.{long}
 use Rattle.leaf.specs.Answers.{Answer, given, refused}
-use Rattle.card.specs.CardA.{cardA}
 use Rattle.step.specs.declared.Answer.{Answer as Told}
 use Rattle.session.specs.Session.{answerTo}
 use Rattle.rides.specs.Recording.{goodRecording, samplesFrom}
 use Rattle.rides.specs.Ride.{startRide, toldOf, turnOf, turnShows, shownBy, wholeRide}
+use Rattle.demands.specs.Examples.{cardOfA}
 use Rattle.demands.specs.Lazy.{Rider, Starts, goesOn, wipes, RidesExactly, RidesOut}
 use Rattle.demands.proofs.Computes.{definitions}
 use Rattle.demands.proofs.Answered.{only-one}
@@ -44,16 +44,16 @@ abbrev at100 : Answer Told
 at100 = given (record { speed = 10000; lamps = 0; cause = 0; icon = 0; limit = false })
 
 record Rides : Type 0 where
-  ours : wholeRide cardA ride-13 ≡ given (at100 ∷ refused 9 ∷ [])
-  going : goesOn cardA ride-13 ≡ given (at100 ∷ refused 9 ∷ at100 ∷ [])
-  wiping : wipes cardA ride-13 ≡ given (refused 9 ∷ [])
+  ours : wholeRide cardOfA ride-13 ≡ given (at100 ∷ refused 9 ∷ [])
+  going : goesOn cardOfA ride-13 ≡ given (at100 ∷ refused 9 ∷ at100 ∷ [])
+  wiping : wipes cardOfA ride-13 ≡ given (refused 9 ∷ [])
 
 rides : Rides
 unfolding definitions wholeRide startRide goodRecording long shownBy turnShows turnOf toldOf answerTo samplesFrom
 rides = record { ours = refl; going = refl; wiping = refl }
 
-as-ours : (ride : Rider) → RidesExactly ride → ride cardA ride-13 ≡ given (at100 ∷ refused 9 ∷ [])
-as-ours ride exact = only-one (exact cardA ride-13) (demand-1 .rides cardA ride-13) ∙ rides .ours
+as-ours : (ride : Rider) → RidesExactly ride → ride cardOfA ride-13 ≡ given (at100 ∷ refused 9 ∷ [])
+as-ours ride exact = only-one (exact cardOfA ride-13) (demand-1 .rides cardOfA ride-13) ∙ rides .ours
 
 pub rides-out : RidesOut
 rides-out =

@@ -1,12 +1,16 @@
 pub mod Computes
 pub mod Answered
+pub mod Openings
 pub mod Ridden
 pub mod Demand1
 pub mod Demand2
 pub mod Later
 pub mod Kept
+pub mod ByAnswer
 pub mod Apart
 pub mod Alike
+pub mod Hushed
+pub mod Unpaired
 pub mod Cards
 pub mod Lines
 pub mod Prints
@@ -41,3 +45,4 @@ pub mod LazyCounts
 pub mod LazyCauses
 pub mod LazyReplays
 pub mod LazyReasons
+pub mod Pairs

@@ -11,7 +11,7 @@ use lib.Seq.{take-add, take-all, split-at}
 use borrow.Author.Tests.{eqb-true, leb-true, leb-false}
 use Rattle.leaf.specs.Answers.{Answer, given, refused, refusedAt}
 use Rattle.leaf.specs.Bytes.{byte, word, long}
-use Rattle.card.specs.declared.Settings.{Settings}
+use Rattle.card.specs.declared.Card.{Card}
 use Rattle.step.specs.declared.Answer.{Answer as Told}
 use Rattle.session.specs.declared.Sample.{Sample}
 use Rattle.session.specs.declared.Session.{Session}
@@ -59,13 +59,13 @@ begins-open r n l o = open-before r (take n l) (drop n l) (rw (take-append-drop 
 
 -- ---- a line with a good head
 
-pub record Opened (settings : Settings) (bytes : List ℕ) (s : Session) : Type 0 where
+pub record Opened (card : Card) (bytes : List ℕ) (s : Session) : Type 0 where
   pub enough : 6 ≤ length bytes
   pub first-none : byte bytes 0 ≡ 0
   pub second-none : byte bytes 1 ≡ 0
   pub fits : lengthFits (long bytes 0) ≡ true
   pub version : byte bytes 4 ≡ 1
-  pub opens : openSession settings (trainOf bytes) ≡ given s
+  pub opens : openSession card (trainOf bytes) ≡ given s
 
 pub head-bytes : (bytes : List ℕ) → 6 ≤ length bytes
     → take 6 bytes ≡ byte bytes 0 ∷ byte bytes 1 ∷ byte bytes 2 ∷ byte bytes 3 ∷ byte bytes 4 ∷ byte bytes 5 ∷ []
@@ -171,29 +171,29 @@ module _ (r : Receiver) (ride : Ride) (stated : ℕ) (bytes : List ℕ) (k : ℕ
 
 -- ---- a line with a good head, after its head and k samples
 
-module _ (settings : Settings) (bytes : List ℕ) (s : Session) (head : Opened settings bytes s) where
+module _ (card : Card) (bytes : List ℕ) (s : Session) (head : Opened card bytes s) where
   abbrev rideAt : ℕ → Ride
   rideAt k = runOf (freshRide s) (firstSamples bytes k)
 
   -- after the head
-  opened-head : both (freshReceiver settings) (take 6 bytes) ≡ (betweenSamples s (long bytes 0) 6, [])
+  opened-head : both (freshReceiver card) (take 6 bytes) ≡ (betweenSamples s (long bytes 0) 6, [])
   unfolding receivedAll shownAll
   opened-head =
       let stated = stated-low bytes (head .first-none) (head .second-none) in
       rw (head-bytes bytes (head .enough), head .first-none, head .second-none, head .version, stated)
-      (head-opens settings (byte bytes 2) (byte bytes 3) (byte bytes 5) s [] (rw stated at (head .fits)) (head .opens))
+      (head-opens card (byte bytes 2) (byte bytes 3) (byte bytes 5) s [] (rw stated at (head .fits)) (head .opens))
 
   -- the receiver stands where the ride stands, and has shown what it shows
   pub record After (k : ℕ) : Type 0 where
-    pub place : Stands (afterBytes settings (take (placeOf k) bytes)) (rideAt k) (long bytes 0) (placeOf k)
-    pub shown : shownBytes settings (take (placeOf k) bytes) ≡ shownBy (freshRide s) (firstSamples bytes k)
+    pub place : Stands (afterBytes card (take (placeOf k) bytes)) (rideAt k) (long bytes 0) (placeOf k)
+    pub shown : shownBytes card (take (placeOf k) bytes) ≡ shownBy (freshRide s) (firstSamples bytes k)
 
   after-head : After 0
   unfolding samplesFrom runOf shownBy
   after-head =
       let after = ap (λ (z : Receiver × List (Answer Told)). z .0) opened-head in
       record {
-        place = rw after (record { inside = inside-laws .opened-inside settings (trainOf bytes) s (head .opens); goes = λ e. refl; stops = λ e. absurd (never e) });
+        place = rw after (record { inside = inside-laws .opened-inside card (trainOf bytes) s (head .opens); goes = λ e. refl; stops = λ e. absurd (never e) });
         shown = ap (λ (z : Receiver × List (Answer Told)). z .1) opened-head;
       }
     where
@@ -208,7 +208,7 @@ module _ (settings : Settings) (bytes : List ℕ) (s : Session) (head : Opened s
   after-next : (k : ℕ) → placeOf k + 6 ≤ length bytes → placeOf k + 6 ≤ long bytes 0 → After k → After (suc k)
   after-next k h p before =
       let sum : placeOf (suc k) ≡ placeOf k + 6 = omega arith in
-      let r = afterBytes settings (take (placeOf k) bytes) in
+      let r = afterBytes card (take (placeOf k) bytes) in
       let x = sampleAt bytes k in
       let next = later r (rideAt k) (long bytes 0) bytes k (before .place) p in
       record {
@@ -236,28 +236,28 @@ may-stand r b l e h o = cases (headFits (r .stated) (r .taken) b) refl
 
 -- the byte of the train type, which did not refuse it, opened the session
 train-open : (r : Receiver) (b : ℕ) (l : List ℕ) → r .status ≡ Open → r .taken ≡ 5 → receivedAll r (b ∷ l) .status ≡ Open
-    → (s : Session) × (openSession (r .session .settings) b ≡ given s)
+    → (s : Session) × (openSession (r .session .card) b ≡ given s)
 unfolding openedWith
-train-open r b l e h o = cases (openSession (r .session .settings) b) refl
+train-open r b l e h o = cases (openSession (r .session .card) b) refl
   where
-    cases : (a : Answer Session) → openSession (r .session .settings) b ≡ a → (s : Session) × (a ≡ given s)
+    cases : (a : Answer Session) → openSession (r .session .card) b ≡ a → (s : Session) × (a ≡ given s)
     cases (given s) f = (s, refl)
     cases (refused n) f = absurd (not-open r n b l (head-train r e b h ∙ rw f) o)
     cases (refusedAt n place) f = absurd (not-open r n b l (head-train r e b h ∙ rw f) o)
 
-opened-by : (settings : Settings) (bytes : List ℕ) → 6 ≤ length bytes → Going settings bytes → (s : Session) × Opened settings bytes s
+opened-by : (card : Card) (bytes : List ℕ) → 6 ≤ length bytes → Going card bytes → (s : Session) × Opened card bytes s
 unfolding headFits statedWith
-opened-by settings bytes enough o =
+opened-by card bytes enough o =
     let h = byte bytes 2 in
     let l = byte bytes 3 in
     let whole : h * 256 / 256 * 256 + l ≡ h * 256 + l = omega arith in
-    let all = ap (λ (l : List ℕ). receivedAll (freshReceiver settings) l .status) (sym (head-cut bytes enough)) ∙ o in
-    let p0 = may-stand (begun settings 0 0) _ _ refl (lit< tt) all in
-    let p1 = may-stand (begun settings 0 1) _ _ refl (lit< tt) (p0 .1) in
-    let p2 = may-stand (begun settings 0 2) h _ refl (lit< tt) (p1 .1) in
-    let p3 = rw whole at (may-stand (begun settings (h * 256) 3) l _ refl (lit< tt) (p2 .1)) in
-    let p4 = may-stand (begun settings (h * 256 + l) 4) _ _ refl (lit< tt) (p3 .1) in
-    let p5 = train-open (begun settings (h * 256 + l) 5) _ (drop 6 bytes) refl refl (p4 .1) in
+    let all = ap (λ (l : List ℕ). receivedAll (freshReceiver card) l .status) (sym (head-cut bytes enough)) ∙ o in
+    let p0 = may-stand (begun card 0 0) _ _ refl (lit< tt) all in
+    let p1 = may-stand (begun card 0 1) _ _ refl (lit< tt) (p0 .1) in
+    let p2 = may-stand (begun card 0 2) h _ refl (lit< tt) (p1 .1) in
+    let p3 = rw whole at (may-stand (begun card (h * 256) 3) l _ refl (lit< tt) (p2 .1)) in
+    let p4 = may-stand (begun card (h * 256 + l) 4) _ _ refl (lit< tt) (p3 .1) in
+    let p5 = train-open (begun card (h * 256 + l) 5) _ (drop 6 bytes) refl refl (p4 .1) in
     let first = eqb-true _ _ (p0 .0) in
     let second = eqb-true _ _ (p1 .0) in (
       p5 .0,
@@ -289,16 +289,16 @@ not-ended s (x ∷ xs) e = cases (accepted s x) refl (not-ended (sampleOf s x .s
 
 -- ---- a line that is not refused, with k complete samples
 
-pub record Gone (settings : Settings) (bytes : List ℕ) (k : ℕ) : Type 0 where
+pub record Gone (card : Card) (bytes : List ℕ) (k : ℕ) : Type 0 where
   pub session : Session
-  pub head : Opened settings bytes session
+  pub head : Opened card bytes session
   pub within : length bytes ≤ long bytes 0
   pub accepted : allAccepted session (firstSamples bytes k) ≡ true
   pub inside : insideOf (after session (firstSamples bytes k)) ≡ true
-  pub place : afterBytes settings (take (placeOf k) bytes) ≡ betweenSamples (after session (firstSamples bytes k)) (long bytes 0) (placeOf k)
-  pub shown : shownBytes settings (take (placeOf k) bytes) ≡ map outcomeOf (outcomes session (firstSamples bytes k))
+  pub place : afterBytes card (take (placeOf k) bytes) ≡ betweenSamples (after session (firstSamples bytes k)) (long bytes 0) (placeOf k)
+  pub shown : shownBytes card (take (placeOf k) bytes) ≡ map outcomeOf (outcomes session (firstSamples bytes k))
 
-module _ (settings : Settings) (bytes : List ℕ) (s : Session) (head : Opened settings bytes s) (going : Going settings bytes) where
+module _ (card : Card) (bytes : List ℕ) (s : Session) (head : Opened card bytes s) (going : Going card bytes) where
   -- its ride has not ended
   goes-on : (k : ℕ) → placeOf k ≤ length bytes → placeOf k ≤ long bytes 0 → eqb (runOf (freshRide s) (firstSamples bytes k) .ended) 0 ≡ true
   goes-on k h p = cases (eqb (runOf (freshRide s) (firstSamples bytes k) .ended) 0) refl
@@ -306,16 +306,16 @@ module _ (settings : Settings) (bytes : List ℕ) (s : Session) (head : Opened s
       cases : (t : Bool) → eqb (runOf (freshRide s) (firstSamples bytes k) .ended) 0 ≡ t → t ≡ true
       cases true e = refl
       cases false e =
-          let still : afterBytes settings (take (placeOf k) bytes) .status ≡ Open = begins-open (freshReceiver settings) (placeOf k) bytes going in
-          let shut = stands settings bytes s head k h p .place .stops e .0 in
+          let still : afterBytes card (take (placeOf k) bytes) .status ≡ Open = begins-open (freshReceiver card) (placeOf k) bytes going in
+          let shut = stands card bytes s head k h p .place .stops e .0 in
           cc
 
   between : (k : ℕ) → placeOf k ≤ length bytes → placeOf k ≤ long bytes 0
-      → afterBytes settings (take (placeOf k) bytes) ≡ betweenSamples (after s (firstSamples bytes k)) (long bytes 0) (placeOf k)
+      → afterBytes card (take (placeOf k) bytes) ≡ betweenSamples (after s (firstSamples bytes k)) (long bytes 0) (placeOf k)
   between k h p =
       let e = goes-on k h p in
       let run = rides.ride-goes s (firstSamples bytes k) (not-ended s (firstSamples bytes k) e) .0 in
-      stands settings bytes s head k h p .place .goes e ∙ rw run
+      stands card bytes s head k h p .place .goes e ∙ rw run
 
   -- a byte past the stated length would be refused
   not-past : length bytes ≤ long bytes 0
@@ -329,44 +329,44 @@ module _ (settings : Settings) (bytes : List ℕ) (s : Session) (head : Opened s
           let m = (long bytes 0 - 6) / 6 in
           let full : placeOf m ≡ long bytes 0 = omega arith in
           let r = betweenSamples (after s (firstSamples bytes m)) (long bytes 0) (placeOf m) in
-          let at : afterBytes settings (take (placeOf m) bytes) ≡ r = between m (omega arith) (omega arith) in
+          let at : afterBytes card (take (placeOf m) bytes) ≡ r = between m (omega arith) (omega arith) in
           let b = getD bytes (placeOf m) 0 in
           let rest = drop (suc (placeOf m)) bytes in
           let cut : bytes ≡ take (placeOf m) bytes ++ b ∷ rest = split-at bytes (placeOf m) 0 (omega arith) in
           let still : receivedAll r (b ∷ rest) .status ≡ Open =
           ap (λ (q : Receiver). receivedAll q (b ∷ rest) .status) (sym at)
-          ∙ ap (λ (q : Receiver). q .status) (sym (received-append (freshReceiver settings) (take (placeOf m) bytes) (b ∷ rest)))
-          ∙ ap (λ (l : List ℕ). afterBytes settings l .status) (sym cut) ∙ going in
+          ∙ ap (λ (q : Receiver). q .status) (sym (received-append (freshReceiver card) (take (placeOf m) bytes) (b ∷ rest)))
+          ∙ ap (λ (l : List ℕ). afterBytes card l .status) (sym cut) ∙ going in
           absurd (not-open r 14 b rest (past-takes r b refl (omega arith) (omega arith)) still)
 
-pub gone : (settings : Settings) (bytes : List ℕ) (k : ℕ) → placeOf k ≤ length bytes → Going settings bytes → Gone settings bytes k
-gone settings bytes k h going =
-    let opened = opened-by settings bytes (omega arith) going in
+pub gone : (card : Card) (bytes : List ℕ) (k : ℕ) → placeOf k ≤ length bytes → Going card bytes → Gone card bytes k
+gone card bytes k h going =
+    let opened = opened-by card bytes (omega arith) going in
     let s = opened .0 in
     let head = opened .1 in
-    let within = not-past settings bytes s head going in
-    let accepted = not-ended s (firstSamples bytes k) (goes-on settings bytes s head going k h (omega arith)) in
+    let within = not-past card bytes s head going in
+    let accepted = not-ended s (firstSamples bytes k) (goes-on card bytes s head going k h (omega arith)) in
     record {
       session = s;
       head = head;
       within = within;
       accepted = accepted;
-      inside = inside-laws .always-inside settings (trainOf bytes) s (firstSamples bytes k) (head .opens);
-      place = between settings bytes s head going k h (omega arith);
-      shown = stands settings bytes s head k h (omega arith) .shown ∙ rides.ride-goes s (firstSamples bytes k) accepted .1;
+      inside = inside-laws .always-inside card (trainOf bytes) s (firstSamples bytes k) (head .opens);
+      place = between card bytes s head going k h (omega arith);
+      shown = stands card bytes s head k h (omega arith) .shown ∙ rides.ride-goes s (firstSamples bytes k) accepted .1;
     }
 
 -- ---- a line between two samples, of which one more is due
 
-pub due-between : (settings : Settings) (before : List ℕ) → Due settings before
-    → (afterBytes settings before ≡ betweenSamples (afterBytes settings before .session) (long before 0) (length before))
-    × (insideOf (afterBytes settings before .session) ≡ true) × (length before + 6 ≤ long before 0) × (length before % 6 ≡ 0) × (6 ≤ length before)
-due-between settings before d =
+pub due-between : (card : Card) (before : List ℕ) → Due card before
+    → (afterBytes card before ≡ betweenSamples (afterBytes card before .session) (long before 0) (length before))
+    × (insideOf (afterBytes card before .session) ≡ true) × (length before + 6 ≤ long before 0) × (length before % 6 ≡ 0) × (6 ≤ length before)
+due-between card before d =
     let k = d .between .0 in
     let n : length before ≡ placeOf k = d .between .1 in
     let more : length before < long before 0 = d .due in
-    let g = gone settings before k (omega arith) (d .going) in
+    let g = gone card before k (omega arith) (d .going) in
     let met = length-met (long before 0) (g .head .fits) in
     let all : take (placeOf k) before ≡ before = take-all (placeOf k) before (omega arith) in
-    let at : afterBytes settings before ≡ betweenSamples (after (g .session) (firstSamples before k)) (long before 0) (length before) = rw (all, ← n) at (g .place) in
+    let at : afterBytes card before ≡ betweenSamples (after (g .session) (firstSamples before k)) (long before 0) (length before) = rw (all, ← n) at (g .place) in
     (at ∙ rw at, rw at (g .inside), omega arith, omega arith, omega arith)

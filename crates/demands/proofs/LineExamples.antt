@@ -6,7 +6,6 @@ use lib.Dec.{lit<}
 use lib.ListN.{length}
 use Rattle.leaf.specs.Answers.{given}
 use Rattle.leaf.specs.Bytes.{byte, long}
-use Rattle.card.specs.CardA.{cardA}
 use Rattle.session.specs.declared.Session.{Session}
 use Rattle.session.specs.Session.{freshSession, openSession, outcomeOf}
 use Rattle.session.specs.Runs.{outcomes}
@@ -14,6 +13,7 @@ use Rattle.rides.specs.Recording.{trainOf, samplesFrom, firstSamples}
 use Rattle.rides.specs.Ride.{toldOf, turnOf}
 use Rattle.receiver.specs.Receiver.{refusedWith, headFits, statedWith, openedWith, headTakes, partFits, partWith, completedBy, sampleTakes, openTakes, takeAs, takeOf, endAs, endOf, receivedAll, shownAll, receivedPieces, shownPieces}
 use Rattle.receiver.specs.declared.Status.the-variants.{Refused}
+use Rattle.demands.specs.Examples.{cardOfA}
 use Rattle.demands.specs.Pieces.{afterBytes, Going, Due, one, LineExamples}
 use Rattle.demands.specs.Lazy.{waits}
 use Rattle.demands.proofs.Computes.{definitions}
@@ -32,19 +32,19 @@ unfit = 0xFF ∷ 0xFF ∷ 0x0C ∷ 0x08 ∷ []
 
 pub record Computed : Type 0 where
   pub opened : Session
-  pub opens : openSession cardA (trainOf whole) ≡ given opened
-  pub going : Going cardA whole
+  pub opens : openSession cardOfA (trainOf whole) ≡ given opened
+  pub going : Going cardOfA whole
   pub one-answer : length (map outcomeOf (outcomes opened (firstSamples whole 1))) ≡ 1
-  pub due : Due cardA (one [])
-  pub refused-9 : afterBytes cardA (one [] ++ unfit) .status ≡ Refused 9
-  pub waits-before : waits .shown cardA (one []) ≡ []
-  pub waits-on : waits .shown cardA (one [] ++ unfit) ≡ []
+  pub due : Due cardOfA (one [])
+  pub refused-9 : afterBytes cardOfA (one [] ++ unfit) .status ≡ Refused 9
+  pub waits-before : waits .shown cardOfA (one []) ≡ []
+  pub waits-on : waits .shown cardOfA (one [] ++ unfit) ≡ []
 
 pub computed : Computed
 unfolding definitions byte long samplesFrom openSession toldOf turnOf refusedWith headFits statedWith openedWith headTakes partFits partWith completedBy sampleTakes openTakes takeAs takeOf receivedAll shownAll
 computed =
     record {
-      opened = freshSession cardA 6;
+      opened = freshSession cardOfA 6;
       opens = refl;
       going = refl;
       one-answer = refl;

@@ -9,7 +9,7 @@ use lib.ListN.{length, take}
 use borrow.Author.Tests.{ne-eqb, not-true}
 use Rattle.leaf.specs.Choosing.{pick, and-split}
 use Rattle.leaf.specs.Answers.{Answer, given, refused, refusedAt}
-use Rattle.card.specs.Reading.{readCard}
+use Rattle.card.specs.Reading.{cardIn}
 use Rattle.step.specs.declared.Answer.{Answer as Told}
 use Rattle.text.specs.Decimal.{newline, blank, naught, digitOf, unitOf, upperOf, lowerOf, decimal, line}
 use Rattle.printed.specs.declared.Columns.{Columns}
@@ -130,7 +130,7 @@ pub first-printed : (columns : Columns) (card recording : List ℕ) (n : ℕ)
     → firstLines (printedRide columns card recording) n ≡ flatten (take n (printedLines columns card recording))
 unfolding printedLines
 first-printed columns card recording n =
-    rw (printed-lines columns card recording) (first-lines n _ (more (heading-is columns) (ride-lines columns (rideOn (readCard card highest) recording))))
+    rw (printed-lines columns card recording) (first-lines n _ (more (heading-is columns) (ride-lines columns (rideOn (cardIn card highest) recording))))
 
 -- ---- each line has its sample's number
 
@@ -156,7 +156,7 @@ flatten-one [] l = rw append-nil
 flatten-one (m ∷ ls) l = rw (flatten-one ls l) (simp append-assoc)
 
 pub numbered : (columns : Columns) (card recording : List ℕ) (before rest : List (Answer Told)) (a : Told)
-    → rideOn (readCard card highest) recording ≡ given (before ++ given a ∷ rest)
+    → rideOn (cardIn card highest) recording ≡ given (before ++ given a ∷ rest)
     → (let k = suc (length before) in
     firstLines (printedRide columns card recording) (suc k) ≡ firstLines (printedRide columns card recording) k ++ line k (columnsOf columns a))
 unfolding printedLines flatten

@@ -4,17 +4,12 @@ use native.Mathlib.Omega.{arith}
 use mathlib.Core.List.{List, [], _∷_, _++_, append-assoc, append-nil, flatten}
 use mathlib.Core.Logic.{inl, inr}
 use mathlib.Core.Path.{_≡_, refl, sym, ap, _∙_}
-use Rattle.leaf.specs.Answers.{Answer, given, refusedAt}
-use Rattle.card.specs.declared.Settings.{Settings}
-use Rattle.card.specs.Card.{baseKind}
-use Rattle.card.specs.Ranges.{checkSettings}
-use Rattle.card.specs.Plain.{CheckedAs}
-use Rattle.card.specs.Plain as plain
-use Rattle.card.proofs.Exactly.{check-exactly}
+use Rattle.leaf.specs.Answers.{Answer, given, refused, refusedAt}
+use Rattle.card.specs.declared.Card.{Card}
 use Rattle.step.specs.declared.Answer.{Answer as Told}
 use Rattle.session.specs.declared.Sample.{Sample}
 use Rattle.session.specs.declared.Session.{Session}
-use Rattle.session.specs.Session.{openingVersion}
+use Rattle.session.specs.Session.{judgeCard}
 use Rattle.receiver.specs.Receiver.{freshReceiver, startedAfter, startReceiver, quietly, refusedWith, takeOf, endOf, receivedAll, shownAll}
 use Rattle.receiver.specs.declared.Receiver.{Receiver}
 use Rattle.receiver.specs.declared.Status.{Status}
@@ -26,26 +21,29 @@ use Rattle.printed_pieces.proofs.PieceTexts.{pieces-text, refused-prints}
 use Rattle.demands.specs.Demand1.{Exactly}
 use Rattle.demands.specs.Pieces.{afterBytes, shownBytes, Going, StartedAs, Cut, Fault, Still}
 use Rattle.demands.specs.Pieces as paper
-use Rattle.demands.proofs.Answered.{exactly}
+use Rattle.demands.proofs.Answered.{exactly, JudgedAs, judged-is, judged-only}
+use Rattle.demands.proofs.Answered as judged
 
 -- ---- the start
 
-module _ (s : Settings) where
-  started-is : StartedAs s (startReceiver s)
+module _ (card : Card) where
+  started-is : StartedAs card (startReceiver card)
   unfolding startReceiver
-  started-is = judged (checkSettings openingVersion s) (check-exactly openingVersion s _ .0 refl)
+  started-is = from (judgeCard card) (judged-is card)
     where
-      judged : (a : Answer Unit) → CheckedAs baseKind openingVersion s a → StartedAs s (startedAfter a s)
-      judged a (plain.CheckedAs.out-of-range at f) = paper.StartedAs.refused-5 at f
-      judged a (plain.CheckedAs.in-range m) = paper.StartedAs.ready m
+      from : (a : Answer Unit) → JudgedAs card a → StartedAs card (startedAfter a card)
+      from a (judged.JudgedAs.unknown u) = paper.StartedAs.refused-2 u
+      from a (judged.JudgedAs.out-of-range k at f) = paper.StartedAs.refused-5 k at f
+      from a (judged.JudgedAs.fine k m) = paper.StartedAs.ready k m
 
-  started-only : (a : Answer Receiver) → StartedAs s a → startReceiver s ≡ a
+  started-only : (a : Answer Receiver) → StartedAs card a → startReceiver card ≡ a
   unfolding startReceiver
-  started-only a (paper.StartedAs.refused-5 at f) = rw (check-exactly openingVersion s (refusedAt 5 at) .1 (plain.CheckedAs.out-of-range at f))
-  started-only a (paper.StartedAs.ready m) = rw (check-exactly openingVersion s (given tt) .1 (plain.CheckedAs.in-range m))
+  started-only a (paper.StartedAs.refused-2 u) = rw (judged-only card (refused 2) (judged.JudgedAs.unknown u))
+  started-only a (paper.StartedAs.refused-5 k at f) = rw (judged-only card (refusedAt 5 at) (judged.JudgedAs.out-of-range k at f))
+  started-only a (paper.StartedAs.ready k m) = rw (judged-only card (given tt) (judged.JudgedAs.fine k m))
 
-pub starts : (settings : Settings) → Exactly (startReceiver settings) (StartedAs settings)
-starts settings = exactly (StartedAs settings) (started-is settings) (started-only settings)
+pub starts : (card : Card) → Exactly (startReceiver card) (StartedAs card)
+starts card = exactly (StartedAs card) (started-is card) (started-only card)
 
 -- ---- any cutting
 
@@ -54,14 +52,14 @@ cuts r pieces = record { receiver = received-cut r pieces; shown = shown-cut r p
 
 -- ---- the first byte at which a line is refused
 
-module _ (settings : Settings) (bytes : List ℕ) (n : ℕ) (shut : afterBytes settings bytes .status ≡ Refused n) where
-  fault-here : (before rest : List ℕ) (b m : ℕ) → bytes ≡ before ++ b ∷ rest → Going settings before
-      → takeOf (afterBytes settings before) b ≡ refusedWith m (afterBytes settings before) → Fault settings bytes n
+module _ (card : Card) (bytes : List ℕ) (n : ℕ) (shut : afterBytes card bytes .status ≡ Refused n) where
+  fault-here : (before rest : List ℕ) (b m : ℕ) → bytes ≡ before ++ b ∷ rest → Going card before
+      → takeOf (afterBytes card before) b ≡ refusedWith m (afterBytes card before) → Fault card bytes n
   unfolding refusedWith
   fault-here before rest b m cut going there =
-      let r = afterBytes settings before in
+      let r = afterBytes card before in
       let all = fault r m b rest there in
-      let after = ap (afterBytes settings) cut ∙ received-append (freshReceiver settings) before (b ∷ rest) ∙ ap (λ (q : Receiver × List (Answer Told)). q .0) all in
+      let after = ap (afterBytes card) cut ∙ received-append (freshReceiver card) before (b ∷ rest) ∙ ap (λ (q : Receiver × List (Answer Told)). q .0) all in
       let number : Refused m ≡ Refused n = sym (ap (λ (q : Receiver). q .status) after) ∙ shut in
       let same : m ≡ n = cc in
       record {
@@ -72,27 +70,27 @@ module _ (settings : Settings) (bytes : List ℕ) (n : ℕ) (shut : afterBytes s
         going = going;
         refused-there = rw same at there;
         stays = rw same at after;
-        shown = rw same at (ap (shownBytes settings) cut ∙ shown-append (freshReceiver settings) before (b ∷ rest) ∙ ap (λ (q : Receiver × List (Answer Told)). shownBytes settings before ++ q .1) all);
+        shown = rw same at (ap (shownBytes card) cut ∙ shown-append (freshReceiver card) before (b ∷ rest) ∙ ap (λ (q : Receiver × List (Answer Told)). shownBytes card before ++ q .1) all);
       }
 
-  fault-in : (before rest : List ℕ) → bytes ≡ before ++ rest → Going settings before → Fault settings bytes n
+  fault-in : (before rest : List ℕ) → bytes ≡ before ++ rest → Going card before → Fault card bytes n
   unfolding receivedAll
   fault-in before [] cut going =
-      let still = ap (λ (l : List ℕ). afterBytes settings l .status) (cut ∙ append-nil before) ∙ going in
+      let still = ap (λ (l : List ℕ). afterBytes card l .status) (cut ∙ append-nil before) ∙ going in
       let z : _≡_ {A = ℕ} 0 1 = cc in
       absurd (omega arith)
   fault-in before (b ∷ rest) cut going = cases (step-of r b) (fault-in (before ++ b ∷ []) rest (cut ∙ sym (append-assoc before (b ∷ []) rest)))
     where
       r : Receiver
-      r = afterBytes settings before
+      r = afterBytes card before
 
-      cases : Step r (takeOf r b) → (Going settings (before ++ b ∷ []) → Fault settings bytes n) → Fault settings bytes n
-      cases (inl k) later = later (ap (λ (q : Receiver). q .status) (received-append (freshReceiver settings) before (b ∷ [])) ∙ k .going)
+      cases : Step r (takeOf r b) → (Going card (before ++ b ∷ []) → Fault card bytes n) → Fault card bytes n
+      cases (inl k) later = later (ap (λ (q : Receiver). q .status) (received-append (freshReceiver card) before (b ∷ [])) ∙ k .going)
       cases (inr (m, out)) later = fault-here before rest b m cut going (out .now going)
 
-pub faults : (settings : Settings) (bytes : List ℕ) (n : ℕ) → afterBytes settings bytes .status ≡ Refused n → Fault settings bytes n
+pub faults : (card : Card) (bytes : List ℕ) (n : ℕ) → afterBytes card bytes .status ≡ Refused n → Fault card bytes n
 unfolding receivedAll
-faults settings bytes n shut = fault-in settings bytes n shut [] bytes refl refl
+faults card bytes n shut = fault-in card bytes n shut [] bytes refl refl
 
 -- ---- once refused, and after a good end
 

@@ -51,8 +51,8 @@ of-conv : (mode : ℕ) → 1 ≤ mode → mode ≤ 2 → inBts mode ≡ false �
 of-conv mode low high h = let n = eqb-false mode 2 h in omega arith
 
 module _ (s : Session) (x : Sample) where
-  abbrev quiet : QuietLaws (s .settings) (topOf s) (carried s x) (s .desk)
-  quiet = quiet-laws (s .settings) (topOf s) (carried s x) (s .desk)
+  abbrev quiet : QuietLaws (s .card) (topOf s) (carried s x) (s .desk)
+  quiet = quiet-laws (s .card) (topOf s) (carried s x) (s .desk)
 
   abbrev Loud : Type 0
   Loud = (x .beacon ≡ 12) × (x .mode ≡ 1)
@@ -78,24 +78,24 @@ module _ (s : Session) (x : Sample) where
 
   -- a beacon behind a 12
   abbrev ReadInBts : Type 0
-  ReadInBts = (isSide (x .beacon) ≡ true) × (readsInBts (s .settings .functions) ≡ true)
+  ReadInBts = (isSide (x .beacon) ≡ true) × (readsInBts (s .card .settings .functions) ≡ true)
 
   read-after : Accepted s x → s .desk .code ≡ 12 → 1 ≤ x .beacon → x .beacon ≤ 11
-      → (reads (s .settings) (carried s x) (s .desk) ≡ true) ↔ ((x .mode ≡ 1) ⊎ ReadInBts)
+      → (reads (s .card) (carried s x) (s .desk) ≡ true) ↔ ((x .mode ≡ 1) ⊎ ReadInBts)
   read-after a last low high = ((λ h. only (inBts (x .mode)) refl (sym law ∙ h)), λ h. law ∙ when h)
     where
-      law : reads (s .settings) (carried s x) (s .desk) ≡ (not (inBts (x .mode)) || isSide (x .beacon) && readsInBts (s .settings .functions))
+      law : reads (s .card) (carried s x) (s .desk) ≡ (not (inBts (x .mode)) || isSide (x .beacon) && readsInBts (s .card .settings .functions))
       law = quiet .read-after last low high
 
-      only : (t : Bool) → inBts (x .mode) ≡ t → (not t || isSide (x .beacon) && readsInBts (s .settings .functions)) ≡ true → (x .mode ≡ 1) ⊎ ReadInBts
-      only true e h = inr (and-split (isSide (x .beacon)) (readsInBts (s .settings .functions)) h)
+      only : (t : Bool) → inBts (x .mode) ≡ t → (not t || isSide (x .beacon) && readsInBts (s .card .settings .functions)) ≡ true → (x .mode ≡ 1) ⊎ ReadInBts
+      only true e h = inr (and-split (isSide (x .beacon)) (readsInBts (s .card .settings .functions)) h)
       only false e h = inl (of-conv (x .mode) (a .codes .mode-low) (a .codes .mode-high) e)
 
       either : (t : Bool) → (t || true) ≡ true
       either true = refl
       either false = refl
 
-      when : (x .mode ≡ 1) ⊎ ReadInBts → (not (inBts (x .mode)) || isSide (x .beacon) && readsInBts (s .settings .functions)) ≡ true
+      when : (x .mode ≡ 1) ⊎ ReadInBts → (not (inBts (x .mode)) || isSide (x .beacon) && readsInBts (s .card .settings .functions)) ≡ true
       when (inl e) = rw (conv-of (x .mode) e)
       when (inr p) = rw (p .0, p .1) (either (not (inBts (x .mode))))
 
@@ -106,7 +106,7 @@ module _ (s : Session) (x : Sample) where
       record {
         lamp-11 = ((λ lit. quiet .lamp-11 .0 (same ∙ lit)), λ e. sym same ∙ quiet .lamp-11 .1 e);
         unread = quiet .unread;
-        remembered = ap (λ (d : Desk). d .code) (desk-after s x (t .0)) ∙ carried-laws (s .settings) (topOf s) (carried s x) (s .desk) .code-after;
+        remembered = ap (λ (d : Desk). d .code) (desk-after s x (t .0)) ∙ carried-laws (s .card) (topOf s) (carried s x) (s .desk) .code-after;
         read-after = read-after (t .0);
       }
 
@@ -136,12 +136,12 @@ module _ (s : Session) (x : Sample) (a b : Told) (ea : sampleOf s (coded 12 x) .
       answers (λ (r : Told). r .cause)
       (laws s (coded 12 x) .cause-told ∙ laws s (coded 12 x) .cause-after
       ∙ ap (λ (n : ℕ). standingCause (s .desk .brake .cause) n (rearms (carried s x) (s .desk)))
-      (arose-bts two 12 ∙ only-alarm (s .settings) (topOf s) (carried s x) (s .desk) .arose ∙ sym (arose-bts two 0))
+      (arose-bts two 12 ∙ only-alarm (s .card) (topOf s) (carried s x) (s .desk) .arose ∙ sym (arose-bts two 0))
       ∙ sym (laws s (coded 0 x) .cause-after) ∙ sym (laws s (coded 0 x) .cause-told))
 
   nothing-else : AlikeButAlarm s x a b
   nothing-else =
-      let only = only-alarm (s .settings) (topOf s) (carried s x) (s .desk) in
+      let only = only-alarm (s .card) (topOf s) (carried s x) (s .desk) in
       record {
         desk = λ code brake. desks (λ (d : Desk). withCode code (withBrake brake d)) (only .desk code brake);
         stood = desks (λ (d : Desk). d .brake .stood) (only .stood);
@@ -220,7 +220,7 @@ module _ (s : Session) (x : Sample) (code : s .desk .code ≤ 11) (cause : s .de
       cases : (t : Bool) → accepted s x ≡ t → (sampleOf s x .session .desk .code ≤ 11) × (sampleOf s x .session .desk .brake .cause ≤ 5)
       cases true e =
           let m = refusal-laws s x .accepted .0 (eqb-true (refusedBy s x) 0 e) in
-          let after = carried-laws (s .settings) (topOf s) (carried s x) (s .desk) .code-after in
+          let after = carried-laws (s .card) (topOf s) (carried s x) (s .desk) .code-after in
           let low = m .codes .beacon-high in
           rw (desk-after s x m) (omega arith, quiet s x .stays-low h cause)
       cases false e = rw (refused-stays s x e) (code, cause)

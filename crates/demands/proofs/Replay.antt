@@ -123,12 +123,12 @@ module _ (recording : List ℕ) (place : ℕ) (s : Session) (quota : ℕ) where
 
 whole : WholeRide replayOf
 unfolding ranFrom
-whole settings recording n s quota shown met opens enough e =
-    let f = ride-given settings recording shown e in
+whole card recording n s quota shown met opens enough e =
+    let f = ride-given card recording shown e in
     let same = sym opens ∙ f .1 in
-    let fresh : s ≡ freshSession settings (trainOf recording) = cc in
+    let fresh : s ≡ freshSession card (trainOf recording) = cc in
     let length : samplesIn recording ≡ n = met-good recording n met .1 in
-    let inside = session-ranges .inside-exactly s .0 (inside-laws .opened-inside settings (trainOf recording) s opens) in
+    let inside = session-ranges .inside-exactly s .0 (inside-laws .opened-inside card (trainOf recording) s opens) in
     let due : min quota (n - 0) ≡ samplesIn recording = omega arith in
     let showing : shown ≡ shownBy (freshRide s) (samplesOf recording) = rw fresh (f .2) in
     let sums = summed s recording 0 (samplesIn recording) in

@@ -1,11 +1,11 @@
--- A whole ride is answered exactly as demand 1 says: 14, 7, its samples.
+-- A whole ride is answered exactly as demand 1 says: 14, then 2 or 5 for the card, 7, its samples.
 use Prim.Native.Nat.{ℕ}
 use native.Mathlib.Omega.{arith}
 use mathlib.Core.Bool.{Bool, true, false}
 use mathlib.Core.List.{List, [], _∷_, map}
 use mathlib.Core.Path.{_≡_, refl, ap}
 use Rattle.leaf.specs.Answers.{Answer, given, refused}
-use Rattle.card.specs.declared.Settings.{Settings}
+use Rattle.card.specs.declared.Card.{Card}
 use Rattle.step.specs.declared.Answer.{Answer as Told}
 use Rattle.session.specs.declared.Sample.{Sample}
 use Rattle.session.specs.declared.Session.{Session}
@@ -17,9 +17,12 @@ use Rattle.rides.specs.Ride.{startRide, freshRide, shownBy, untilRefused, shown
 use Rattle.rides.proofs.Recordings.{good-met, met-good}
 use Rattle.rides.proofs.Runs.{shown-until}
 use Rattle.rides.proofs.Refusals.{starts-good, starts-bad}
-use Rattle.demands.specs.Demand1.{Exactly, OpenedAs, ShownAs, RiddenAs}
+use Rattle.demands.specs.Opening.{OpenedAs}
+use Rattle.demands.specs.Opening as opening
+use Rattle.demands.specs.Demand1.{Exactly, ShownAs, RiddenAs}
 use Rattle.demands.specs.Demand1 as paper
-use Rattle.demands.proofs.Answered.{exactly, openings-exactly, samples-exactly}
+use Rattle.demands.proofs.Answered.{exactly, samples-exactly}
+use Rattle.demands.proofs.Openings.{openings-exactly}
 
 -- ---- its samples
 
@@ -46,45 +49,47 @@ shown-only s (x ∷ xs) l (paper.ShownAs.ended it) = rw (samples-exactly s x _ .
 
 -- ---- the ride
 
-module _ (settings : Settings) (recording : List ℕ) where
-  pub good : (n : ℕ) → RecordingMet recording n → startRide settings recording ≡ openSession settings (trainOf recording)
-  good n m = starts-good settings recording (met-good recording n m .0)
+module _ (card : Card) (recording : List ℕ) where
+  pub good : (n : ℕ) → RecordingMet recording n → startRide card recording ≡ openSession card (trainOf recording)
+  good n m = starts-good card recording (met-good recording n m .0)
 
   -- a recording that is none is 14
-  pub none-good : ((n : ℕ) → RecordingMet recording n → ⊥) → startRide settings recording ≡ refused 14
+  pub none-good : ((n : ℕ) → RecordingMet recording n → ⊥) → startRide card recording ≡ refused 14
   none-good none = cases (goodRecording recording) refl
     where
-      cases : (t : Bool) → goodRecording recording ≡ t → startRide settings recording ≡ refused 14
+      cases : (t : Bool) → goodRecording recording ≡ t → startRide card recording ≡ refused 14
       cases true e = absurd (none _ (good-met recording e))
-      cases false e = starts-bad settings recording e
+      cases false e = starts-bad card recording e
 
-  ridden-is : RiddenAs settings recording (wholeRide settings recording)
+  ridden-is : RiddenAs card recording (wholeRide card recording)
   unfolding wholeRide
   ridden-is = cases (goodRecording recording) refl
     where
       xs : List Sample
       xs = samplesOf recording
 
-      from : (a : Answer Session) → OpenedAs settings (trainOf recording) a → RecordingMet recording (samplesIn recording) → RiddenAs settings recording (shownFrom a xs)
-      from a (paper.OpenedAs.refused-5 at f) m = paper.RiddenAs.refused-5 m (paper.OpenedAs.refused-5 at f)
-      from a (paper.OpenedAs.refused-7 t w) m = paper.RiddenAs.refused-7 m (paper.OpenedAs.refused-7 t w)
-      from a (paper.OpenedAs.opened t w) m =
-          let s = freshSession settings (trainOf recording) in
-          paper.RiddenAs.ridden {shown = shownBy (freshRide s) xs} m (paper.OpenedAs.opened t w) (rw (shown-until s xs) (shown-is s xs))
+      from : (a : Answer Session) → OpenedAs card (trainOf recording) a → RecordingMet recording (samplesIn recording) → RiddenAs card recording (shownFrom a xs)
+      from a (opening.OpenedAs.refused-2 u) m = paper.RiddenAs.refused-2 m (opening.OpenedAs.refused-2 u)
+      from a (opening.OpenedAs.refused-5 k at f) m = paper.RiddenAs.refused-5 m (opening.OpenedAs.refused-5 k at f)
+      from a (opening.OpenedAs.refused-7 k t w) m = paper.RiddenAs.refused-7 m (opening.OpenedAs.refused-7 k t w)
+      from a (opening.OpenedAs.opened k t w) m =
+          let s = freshSession card (trainOf recording) in
+          paper.RiddenAs.ridden {shown = shownBy (freshRide s) xs} m (opening.OpenedAs.opened k t w) (rw (shown-until s xs) (shown-is s xs))
 
-      cases : (t : Bool) → goodRecording recording ≡ t → RiddenAs settings recording (shownFrom (startRide settings recording) xs)
+      cases : (t : Bool) → goodRecording recording ≡ t → RiddenAs card recording (shownFrom (startRide card recording) xs)
       cases true e =
           let m = good-met recording e in
-          rw (good (samplesIn recording) m) (from (openSession settings (trainOf recording)) (openings-exactly settings (trainOf recording) _ .0 refl) m)
-      cases false e = rw (starts-bad settings recording e) (paper.RiddenAs.refused-14 (λ n m. let z = met-good recording n m .0 in let q : _≡_ {A = ℕ} 0 1 = cc in omega arith))
+          rw (good (samplesIn recording) m) (from (openSession card (trainOf recording)) (openings-exactly card (trainOf recording) _ .0 refl) m)
+      cases false e = rw (starts-bad card recording e) (paper.RiddenAs.refused-14 (λ n m. let z = met-good recording n m .0 in let q : _≡_ {A = ℕ} 0 1 = cc in omega arith))
 
-  ridden-only : (a : Answer (List (Answer Told))) → RiddenAs settings recording a → wholeRide settings recording ≡ a
+  ridden-only : (a : Answer (List (Answer Told))) → RiddenAs card recording a → wholeRide card recording ≡ a
   unfolding wholeRide
   ridden-only a (paper.RiddenAs.refused-14 none) = rw (none-good none)
-  ridden-only a (paper.RiddenAs.refused-5 {n = n} m o) = rw (good n m, openings-exactly settings (trainOf recording) _ .1 o)
-  ridden-only a (paper.RiddenAs.refused-7 {n = n} m o) = rw (good n m, openings-exactly settings (trainOf recording) _ .1 o)
+  ridden-only a (paper.RiddenAs.refused-2 {n = n} m o) = rw (good n m, openings-exactly card (trainOf recording) _ .1 o)
+  ridden-only a (paper.RiddenAs.refused-5 {n = n} m o) = rw (good n m, openings-exactly card (trainOf recording) _ .1 o)
+  ridden-only a (paper.RiddenAs.refused-7 {n = n} m o) = rw (good n m, openings-exactly card (trainOf recording) _ .1 o)
   ridden-only a (paper.RiddenAs.ridden {n = n} {s = s} {shown = l} m o later) =
-      rw (good n m, openings-exactly settings (trainOf recording) _ .1 o, shown-until s (samplesOf recording)) (ap given (shown-only s (samplesOf recording) l later))
+      rw (good n m, openings-exactly card (trainOf recording) _ .1 o, shown-until s (samplesOf recording)) (ap given (shown-only s (samplesOf recording) l later))
 
-  pub rides-exactly : Exactly (wholeRide settings recording) (RiddenAs settings recording)
-  rides-exactly = exactly (RiddenAs settings recording) ridden-is ridden-only
+  pub rides-exactly : Exactly (wholeRide card recording) (RiddenAs card recording)
+  rides-exactly = exactly (RiddenAs card recording) ridden-is ridden-only

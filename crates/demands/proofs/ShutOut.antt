@@ -21,15 +21,16 @@ use Rattle.session.specs.declared.Sample.{Sample}
 use Rattle.session.specs.declared.Session.{Session}
 use Rattle.session.specs.declared.Sampled.{Sampled}
 use Rattle.session.specs.declared.Outcome.{Outcome}
-use Rattle.session.specs.Session.{openingVersion, freshSession, openSession, sampleOf}
+use Rattle.session.specs.Session.{freshSession, sampleOf}
 use Rattle.rides.specs.Recording.{goodRecording}
 use Rattle.rides.specs.Ride.{startRide}
 use Rattle.printed.proofs.Examples.{ride-A}
-use Rattle.demands.specs.Examples.{conv, shows, card-P}
+use Rattle.demands.specs.Examples.{conv, shows, cardOfA, card-P}
 use Rattle.demands.specs.ShutOut.{Logic, document01, Equals, RefusesAll, OneSpeed, Repeats, Forgets, Untouched, ShutOut}
-use Rattle.demands.specs.Demand1.{SheetReadAs, OpenedAs}
+use Rattle.demands.specs.Demand1.{SheetReadAs}
 use Rattle.demands.specs.Demand1 as paper
 use Rattle.demands.proofs.Computes.{definitions}
+use Rattle.demands.proofs.Openings.{some-opening, not-invented-opening}
 use Rattle.demands.proofs.Demand1.{demand-1}
 use Rattle.demands.proofs.Lines.{numbered}
 
@@ -44,18 +45,18 @@ before-red = conv 300 7 0
 abbrev told : List Outcome
 told = shows 10000 0 0 ∷ shows 8000 16 5 ∷ shows 8000 16 5 ∷ []
 
-rides : document01 cardA 6 (standing ∷ before-red ∷ standing ∷ []) ≡ given told
+rides : document01 cardOfA 6 (standing ∷ before-red ∷ standing ∷ []) ≡ given told
 unfolding definitions
 rides = refl
 
-first-told : document01 cardA 6 (standing ∷ []) ≡ given (shows 10000 0 0 ∷ [])
+first-told : document01 cardOfA 6 (standing ∷ []) ≡ given (shows 10000 0 0 ∷ [])
 unfolding definitions
 first-told = refl
 
 -- what the first of them leaves: the start row's age is 1
 record Moved : Type 0 where
-  answers : sampleOf (freshSession cardA 6) standing .outcome ≡ shows 10000 0 0
-  age : sampleOf (freshSession cardA 6) standing .session .desk .main .age ≡ 1
+  answers : sampleOf (freshSession cardOfA 6) standing .outcome ≡ shows 10000 0 0
+  age : sampleOf (freshSession cardOfA 6) standing .session .desk .main .age ≡ 1
 
 moved : Moved
 unfolding definitions
@@ -64,30 +65,30 @@ moved = record { answers = refl; age = refl }
 -- ---- the kinds
 
 module _ (f : Logic) (equals : Equals f) where
-  f-rides : f cardA 6 (standing ∷ before-red ∷ standing ∷ []) ≡ given told
-  f-rides = equals cardA 6 (standing ∷ before-red ∷ standing ∷ []) ∙ rides
+  f-rides : f cardOfA 6 (standing ∷ before-red ∷ standing ∷ []) ≡ given told
+  f-rides = equals cardOfA 6 (standing ∷ before-red ∷ standing ∷ []) ∙ rides
 
   not-refusing : RefusesAll f → ⊥
-  not-refusing h = let z = h cardA 6 _ _ f-rides in let e : _≡_ {A = ℕ} 0 1 = cc in omega arith
+  not-refusing h = let z = h cardOfA 6 _ _ f-rides in let e : _≡_ {A = ℕ} 0 1 = cc in omega arith
 
   not-one-speed : OneSpeed f → ⊥
-  not-one-speed h = let speeds = h cardA 6 .1 _ _ f-rides in let a = speeds .0 in let b = speeds .1 .0 in omega arith
+  not-one-speed h = let speeds = h cardOfA 6 .1 _ _ f-rides in let a = speeds .0 in let b = speeds .1 .0 in omega arith
 
   not-repeating : Repeats f → ⊥
-  not-repeating h = let z = ap (λ (a : Told). a .speed) (h cardA 6 _ _ f-rides .0) in omega arith
+  not-repeating h = let z = ap (λ (a : Told). a .speed) (h cardOfA 6 _ _ f-rides .0) in omega arith
 
   not-forgetting : Forgets f → ⊥
   not-forgetting h =
       let same =
-      h cardA 6 standing [] (standing ∷ before-red ∷ []) [] (shows 10000 0 0 ∷ shows 8000 16 5 ∷ []) _ _
-      (equals cardA 6 (standing ∷ []) ∙ first-told) f-rides in
+      h cardOfA 6 standing [] (standing ∷ before-red ∷ []) [] (shows 10000 0 0 ∷ shows 8000 16 5 ∷ []) _ _
+      (equals cardOfA 6 (standing ∷ []) ∙ first-told) f-rides in
       let z = ap (λ (a : Told). a .speed) same in
       omega arith
 
 module _ (f : Session → Sample → Sampled) (equals : (s : Session) (x : Sample) → f s x ≡ sampleOf s x) where
   touched : Untouched f → ⊥
   touched h =
-      let fresh = freshSession cardA 6 in
+      let fresh = freshSession cardOfA 6 in
       let e = equals fresh standing in
       let same = h fresh standing _ (ap (λ (r : Sampled). r .outcome) e ∙ moved .answers) in
       let z : _≡_ {A = ℕ} 1 0 = sym (moved .age) ∙ ap (λ (r : Sampled). r .session .desk .main .age) (sym e) ∙ ap (λ (s : Session). s .desk .main .age) same in
@@ -111,12 +112,11 @@ record Accepts : Type 0 where
   write : isGiven (writeCard 1 cardA 39) ≡ true
   read : isGiven (readSheet sheet) ≡ true
   tone : isGiven (classifyOf sheet nan) ≡ true
-  opening : isGiven (openSession cardA 6) ≡ true
-  recording : isGiven (startRide cardA ride-A) ≡ true
+  recording : isGiven (startRide cardOfA ride-A) ≡ true
 
 accepts : Accepts
 unfolding definitions writeCard classifyOf readSheet sheetOf faultOf rowsOf rowOk goodAt sharesEarlier readFrom long ofBits ofInt le mul sub goodRecording startRide
-accepts = record { card = refl; write = refl; read = refl; tone = refl; opening = refl; recording = refl }
+accepts = record { card = refl; write = refl; read = refl; tone = refl; recording = refl }
 
 -- ---- places
 
@@ -125,9 +125,6 @@ read-at (plain.ReadAs.out-of-range header at f) = (refl, f)
 
 written-at : {version : ℕ} {s : Settings} {room n at : ℕ} → WrittenAs version s room (refusedAt n at) → (n ≡ 5) × FirstOut baseKind version s at
 written-at (plain.WrittenAs.out-of-range known at f) = (refl, f)
-
-opened-at : {s : Settings} {train n at : ℕ} → OpenedAs s train (refusedAt n at) → (n ≡ 5) × FirstOut baseKind openingVersion s at
-opened-at (paper.OpenedAs.refused-5 at f) = (refl, f)
 
 sheet-at : {area : List ℕ} {n place : ℕ} → SheetReadAs area (refusedAt n place) → (n ≡ 12) × facts.FirstFault area place
 sheet-at (paper.SheetReadAs.refused-12 place f) = (refl, f)
@@ -144,11 +141,11 @@ shut-out =
       some-write = λ h. false≢true (sym (h 1 cardA 39) ∙ accepts .write);
       some-sheet = λ h. false≢true (sym (h sheet) ∙ accepts .read);
       some-tone = λ h. false≢true (sym (h sheet nan) ∙ accepts .tone);
-      some-opening = λ h. false≢true (sym (h cardA 6) ∙ accepts .opening);
-      some-recording = λ h. false≢true (sym (h cardA ride-A) ∙ accepts .recording);
+      some-opening = some-opening;
+      some-recording = λ h. false≢true (sym (h cardOfA ride-A) ∙ accepts .recording);
       not-invented-read = λ area highest n at e. read-at (demand-1 .cards area highest (refusedAt n at) .0 e);
       not-invented-write = λ version s room n at e. written-at (demand-1 .writes version s room (refusedAt n at) .0 e);
-      not-invented-opening = λ s train n at e. opened-at (demand-1 .openings s train (refusedAt n at) .0 e);
+      not-invented-opening = not-invented-opening;
       not-invented-sheet = λ area n place e. sheet-at (demand-1 .sheets area (refusedAt n place) .0 e);
       not-invented-number = numbered;
     }

@@ -1,4 +1,4 @@
--- Demand 3 of what a receiver shows. Receivers whose settings differ in later functions alone go alike, byte by byte, as long as no function
+-- Demand 3 of what a receiver shows. Receivers whose cards differ in version and later functions alone go alike, byte by byte, as long as no function
 -- that differs speaks at a sample that the bytes complete: the head, then the samples, then the end. And so do the lines of two cards.
 use Prim.Native.Nat.{ℕ, _+_, _%_, _<_, _≤_}
 use native.Mathlib.Omega.{arith}
@@ -8,22 +8,23 @@ use mathlib.Core.List.{List, [], _∷_, flatten}
 use lib.Dec.{eqb, ltb, lit<}
 use borrow.Author.Tests.{eqb-true, eqb-false, ltb-true, ltb-false}
 use Rattle.leaf.specs.Choosing.{pick}
-use Rattle.leaf.specs.Answers.{given, refused}
-use Rattle.card.specs.declared.Settings.{Settings}
+use Rattle.leaf.specs.Answers.{Answer, given, refused, refusedAt}
+use Rattle.step_laws.proofs.Choosing.{pick-has}
+use Rattle.card.specs.declared.Card.{Card}
 use Rattle.card.specs.Card.{Same}
-use Rattle.card.specs.Reading.{readCard}
-use Rattle.card.proofs.Silence.{silence}
+use Rattle.card.specs.Reading.{cardIn}
+use Rattle.card.proofs.Silence.{card-silence}
 use Rattle.session.specs.declared.Sample.{Sample}
 use Rattle.session.specs.declared.Session.{Session}
 use Rattle.session.specs.declared.Outcome.{Outcome}
 use Rattle.session.specs.declared.Outcome.the-variants as outcome
 use Rattle.session.specs.Types.{typeAllowed}
-use Rattle.session.specs.Session.{freshSession, openSession, settingsInside, ranOf, sampleOf}
+use Rattle.session.specs.Session.{freshSession, openSession, cardInside, ranOf, sampleOf}
 use Rattle.session.specs.Runs.{accepted}
 use Rattle.session.proofs.Runs.{accepted-runs, refused-stays}
-use Rattle.rides.specs.Ride.{freshRide, toldOf, turnOf}
+use Rattle.rides.specs.Ride.{numberOf, freshRide, toldOf, turnOf}
 use Rattle.rides.specs.declared.ride.Turned.{Turned}
-use Rattle.receiver.specs.Receiver.{withStated, withPart, withSession, withStatus, countedIn, noPart, freshReceiver, quietly, refusedWith, headFits, statedWith, openedWith, headTakes, placeIn, partFits, partWith, completedBy, sampleTakes, takeAs, takeOf, wholeIn, endAs, endOf, receivedAll, shownAll}
+use Rattle.receiver.specs.Receiver.{withStated, withPart, withSession, withStatus, countedIn, noPart, freshReceiver, quietly, refusedWith, headFits, statedWith, openedWith, headTakes, placeIn, partFits, partWith, completedBy, sampleTakes, openTakes, takeAs, takeOf, wholeIn, endAs, endOf, receivedAll, shownAll}
 use Rattle.receiver.specs.declared.Receiver.{Receiver}
 use Rattle.receiver.specs.declared.Received.{Received}
 use Rattle.receiver.specs.declared.Status.{Status}
@@ -39,7 +40,9 @@ use Rattle.demands.proofs.Later.{later, AllSilent, all-silent, all-fres
 use Rattle.demands.proofs.Alike.{entries, beside, BothInside, Quiet, refusal-alike, ran-alike}
 use Rattle.demands.proofs.Cards.{its-range, opens}
 use Rattle.demands.proofs.Line.{turn-session}
-use Rattle.demands.proofs.Demand3.{settings-same, settings-alike}
+use Rattle.demands.proofs.Demand3.{settings-alike, says-same, version-one, version-two}
+use Rattle.demands.proofs.Hushed.{card-kept, hushed}
+use Rattle.session.proofs.Opening.{opening-fresh}
 
 -- ---- the line
 
@@ -47,7 +50,7 @@ use Rattle.demands.proofs.Demand3.{settings-same, settings-alike}
 shut-out : (n : ℕ) → Refused n ≡ Open → ⊥
 shut-out n e = let z : _≡_ {A = ℕ} 0 1 = cc in omega arith
 
-module _ (t : Settings) where
+module _ (t : Card) where
   -- on a card with the later functions of t, all else as it is
   abbrev besideR : Receiver → Receiver
   besideR r = withSession (beside t (r .session)) r
@@ -103,8 +106,8 @@ module _ (t : Settings) where
 
   -- ---- one byte
 
-  module _ (s : Settings) (inside : settingsInside s ≡ true) (also : settingsInside (later s t) ≡ true) where
-    -- a receiver on settings s: in the head, in the samples, or no longer open
+  module _ (s : Card) (inside : cardInside s ≡ true) (also : cardInside (later s t) ≡ true) where
+    -- a receiver on card s: in the head, in the samples, or no longer open
     data Place : Receiver → Type 0 where
       head : (stated taken : ℕ) → taken < 6 → Place (held (freshSession s 0) stated taken noPart)
       within : (u : Session) (stated taken : ℕ) (part : Sample) → 6 ≤ taken → BothInside t u → Quiet t u → Place (held u stated taken part)
@@ -124,7 +127,7 @@ module _ (t : Settings) where
         → Alike (openedWith (held (freshSession s 0) stated taken noPart) (openSession s b))
         (openedWith (besideR (held (freshSession s 0) stated taken noPart)) (openSession (later s t) b))
     unfolding openedWith
-    opened-alike b stated taken five = rw (opens s b inside, opens (later s t) b also) (cases (typeAllowed b (s .vmax)))
+    opened-alike b stated taken five = rw (opens s b inside, opens (later s t) b also) (cases (typeAllowed b (s .settings .vmax)))
       where
         r : Receiver
         r = held (freshSession s 0) stated taken noPart
@@ -265,9 +268,9 @@ module _ (t : Settings) where
 
 -- ---- two cards
 
--- of settings that are the same but for later functions, and bytes at which none that differs speaks
-module _ (s t : Settings) (one : t ≡ later s t) (inside : settingsInside s ≡ true) (also : settingsInside t ≡ true) (bytes : List ℕ) (none : NoneSpeaks t (freshReceiver s) bytes) where
-  also-later : settingsInside (later s t) ≡ true
+-- of cards that are the same but for version and later functions, and bytes at which none that differs speaks
+module _ (s t : Card) (one : t ≡ later s t) (inside : cardInside s ≡ true) (also : cardInside t ≡ true) (bytes : List ℕ) (none : NoneSpeaks t (freshReceiver s) bytes) where
+  also-later : cardInside (later s t) ≡ true
   also-later = rw one at also
 
   place : Place t s inside also-later (freshReceiver s)
@@ -275,15 +278,15 @@ module _ (s t : Settings) (one : t ≡ later s t) (inside : settingsInside s ≡
 
   -- the receivers differ in later functions alone, and the same is shown
   after-alike : afterBytes t bytes ≡ besideR t (afterBytes s bytes)
-  after-alike = ap (λ (q : Settings). afterBytes q bytes) one ∙ received-alike t s inside also-later (freshReceiver s) bytes place none
+  after-alike = ap (λ (q : Card). afterBytes q bytes) one ∙ received-alike t s inside also-later (freshReceiver s) bytes place none
 
   answers-alike : shownBytes t bytes ≡ shownBytes s bytes
-  answers-alike = ap (λ (q : Settings). shownBytes q bytes) one ∙ shown-alike t s inside also-later (freshReceiver s) bytes place none
+  answers-alike = ap (λ (q : Card). shownBytes q bytes) one ∙ shown-alike t s inside also-later (freshReceiver s) bytes place none
 
   -- and as printed, with the end
   pub text-alike : (columns : Columns) → pieceText columns (freshReceiver t) bytes ≡ pieceText columns (freshReceiver s) bytes
   text-alike columns =
-      ap (λ (q : Settings). pieceText columns (freshReceiver q) bytes) one ∙ printed-alike t s inside also-later columns (freshReceiver s) bytes place none
+      ap (λ (q : Card). pieceText columns (freshReceiver q) bytes) one ∙ printed-alike t s inside also-later columns (freshReceiver s) bytes place none
 
   pub end-text-alike : (columns : Columns) → endText columns (afterBytes t bytes) ≡ endText columns (afterBytes s bytes)
   unfolding endText
@@ -293,16 +296,74 @@ module _ (s t : Settings) (one : t ≡ later s t) (inside : settingsInside s ≡
   line-alike pieces cut =
       rw (received-cut (freshReceiver s) pieces, received-cut (freshReceiver t) pieces, shown-cut (freshReceiver s) pieces, shown-cut (freshReceiver t) pieces, cut, after-alike, answers-alike, end-alike t (afterBytes s bytes))
 
+-- ---- version 1 and 2: no function differs
+
+-- no byte changes the card of a receiver's session
+module _ (r : Receiver) where
+  abbrev Carded : Received → Type 0
+  Carded got = got .receiver .session .card ≡ r .session .card
+
+  refused-carded : (n : ℕ) → Carded (refusedWith n r)
+  unfolding refusedWith
+  refused-carded n = refl
+
+  opened-carded : (a : Answer Session) (train : ℕ) → openSession (r .session .card) train ≡ a → Carded (openedWith r a)
+  unfolding openedWith
+  opened-carded (given s) train e = ap (λ (q : Session). q .card) (opening-fresh (r .session .card) train s e)
+  opened-carded (refused n) train e = refused-carded n
+  opened-carded (refusedAt n place) train e = refused-carded n
+
+  head-carded : (b : ℕ) → Carded (headTakes r b)
+  unfolding headTakes
+  head-carded b =
+      pick-has Carded (headFits (r .stated) (r .taken) b)
+      (pick-has Carded (eqb (r .taken) 5) (opened-carded (openSession (r .session .card) b) b refl) refl) (refused-carded 14)
+
+  told-carded : (u : Session) (o : Outcome) → u .card ≡ r .session .card → Carded (completedBy r (toldOf u o))
+  unfolding completedBy toldOf refusedWith
+  told-carded u (outcome.Answered a) e = e
+  told-carded u (outcome.Refused why) e = cases (eqb (numberOf why) 0)
+    where
+      cases : (none : Bool) → pick none (countedIn (withPart noPart (withSession u r))) (withStatus (Refused (numberOf why)) r) .session .card ≡ r .session .card
+      cases true = e
+      cases false = refl
+
+  sample-carded : (b : ℕ) → Carded (sampleTakes r b)
+  unfolding sampleTakes turnOf
+  sample-carded b =
+      let x : Sample = partWith (r .part) (placeIn r) b in
+      pick-has Carded (partFits (placeIn r) b)
+      (pick-has Carded (eqb (placeIn r) 5) (told-carded (sampleOf (r .session) x .session) (sampleOf (r .session) x .outcome) (card-kept (r .session) x)) refl) (refused-carded 9)
+
+  card-stays : (b : ℕ) → Carded (takeOf r b)
+  unfolding takeOf takeAs openTakes
+  card-stays b = cases (r .status)
+    where
+      cases : (now : Status) → Carded (takeAs now r b)
+      cases Open = pick-has Carded (ltb (r .taken) 6) (head-carded b) (pick-has Carded (ltb (r .taken) (r .stated)) (sample-carded b) (refused-carded 14))
+      cases Ended = refused-carded 14
+      cases (Refused n) = refl
+
+module _ (s t : Card) (says : t .settings ≡ s .settings) (one : s .version ≡ 1) (two : t .version ≡ 2) where
+  pub none-speaks : (r : Receiver) (bytes : List ℕ) → r .session .card ≡ s → NoneSpeaks t r bytes
+  none-speaks r [] e = tt
+  none-speaks r (b ∷ rest) e =
+      (λ shown. hushed s t says one two (r .session) (partWith (r .part) (placeIn r) b) e, none-speaks (takeOf r b .receiver) rest (card-stays r b ∙ e))
+
 -- ---- the statements
 
 pub silent-bytes : (a b : List ℕ) (h : ℕ) → SameSpeaking a b → (pieces : List (List ℕ)) → lineOf b h pieces ≡ lineOf a h pieces
-silent-bytes a b h m pieces = rw (silence a b h (m .whole-a) (m .whole-b) (m .same))
+silent-bytes a b h m pieces = rw (card-silence a b h (m .whole-a) (m .whole-b) (m .same))
 
-module _ (a b : List ℕ) (h g : ℕ) (s t : Settings) (read-a : readCard a h ≡ given s) (read-b : readCard b g ≡ given t) where
-  pub versions-silent : SameWithout a b → (pieces : List (List ℕ)) → lineOf a h pieces ≡ lineOf b g pieces
-  versions-silent m pieces = rw (read-a, read-b, settings-same a b h g s t read-a read-b m)
-
+module _ (a b : List ℕ) (h g : ℕ) (s t : Card) (read-a : cardIn a h ≡ given s) (read-b : cardIn b g ≡ given t) where
   pub functions-silent : Same a b 3 39 → (pieces : List (List ℕ)) → NoneSpeaks t (freshReceiver s) (flatten pieces) → lineOf a h pieces ≡ lineOf b g pieces
   functions-silent same pieces none =
       rw (read-a, read-b)
       (ap given (line-alike s t (settings-alike a b h g s t read-a read-b same) (its-range a h s read-a) (its-range b g t read-b) (flatten pieces) none pieces refl))
+
+  pub versions-quiet : SameWithout a b → (bytes : List ℕ) → NoneSpeaks t (freshReceiver s) bytes
+  versions-quiet m bytes =
+      none-speaks s t (says-same a b h g s t read-a read-b m) (version-one a b h g s t read-a read-b m) (version-two a b h g s t read-a read-b m) (freshReceiver s) bytes refl
+
+  pub versions-silent : SameWithout a b → (pieces : List (List ℕ)) → lineOf a h pieces ≡ lineOf b g pieces
+  versions-silent m pieces = functions-silent (m .common) pieces (versions-quiet m (flatten pieces))

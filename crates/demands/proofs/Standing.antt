@@ -14,7 +14,7 @@ use Rattle.leaf.specs.Numbers.{bitOf}
 use Rattle.leaf.specs.Buttons.{rearmButton}
 use Rattle.leaf.specs.Answers.{given}
 use Rattle.leaf.specs.declared.Refusal.the-variants.{Number}
-use Rattle.card.specs.declared.Settings.{Settings}
+use Rattle.card.specs.declared.Card.{Card}
 use Rattle.desk.specs.declared.state.Desk.{Desk}
 use Rattle.desk.specs.Brake.{stoodAfter, standstill}
 use Rattle.desk.specs.State.{withBrake}
@@ -90,7 +90,7 @@ module _ (s : Session) (x : Sample) where
   unfolding ranOf
   count-after h =
       ap (λ (r : Sampled). countOf (r .session)) (accepted-runs s x h)
-      ∙ brake-laws (s .settings) (topOf s) (carried s x) (s .desk) .stood-then
+      ∙ brake-laws (s .card) (topOf s) (carried s x) (s .desk) .stood-then
 
 -- a list of samples, accepted or refused
 count-along : (s : Session) (xs : List Sample) → countOf (after s xs) ≡ countedOn (countOf s) (acceptedOf s xs)
@@ -106,9 +106,9 @@ count-along s (x ∷ xs) = count-along (sampleOf s x .session) xs ∙ cases (acc
         (ap (λ (r : Sampled). countOf (r .session)) (refused-stays s x e))
 
 count : Counts (λ s xs. countOf (after s xs))
-count settings train s xs n h stood =
+count card train s xs n h stood =
     count-along s xs
-    ∙ ap (λ (k : ℕ). countedOn k (acceptedOf s xs)) (ap countOf (opening-fresh settings train s h))
+    ∙ ap (λ (k : ℕ). countedOn k (acceptedOf s xs)) (ap countOf (opening-fresh card train s h))
     ∙ along-as (acceptedOf s xs) n stood
 
 -- ---- standstill
@@ -127,7 +127,7 @@ module _ (s : Session) (x : Sample) where
   ran a = refusal-laws s x .accepted-as (refusal-laws s x .accepted .1 a)
 
   refused-11 : (sampleOf s x ≡ refusalBy 11 s)
-      ↔ (Inside s × (CodesMet x × ((x .pulses * s .settings .tick ≤ 100000) × ((x .mode ≡ modeOf s → ⊥) × (Still s x → ⊥)))))
+      ↔ (Inside s × (CodesMet x × ((x .pulses * s .card .settings .tick ≤ 100000) × ((x .mode ≡ modeOf s → ⊥) × (Still s x → ⊥)))))
   unfolding ranOf
   refused-11 = (only, when)
     where
@@ -136,7 +136,7 @@ module _ (s : Session) (x : Sample) where
       number-of false e h = number-is (sym (ap (λ (r : Sampled). r .outcome) (refused-stays s x e)) ∙ ap (λ (r : Sampled). r .outcome) h)
 
       only : sampleOf s x ≡ refusalBy 11 s
-          → Inside s × (CodesMet x × ((x .pulses * s .settings .tick ≤ 100000) × ((x .mode ≡ modeOf s → ⊥) × (Still s x → ⊥))))
+          → Inside s × (CodesMet x × ((x .pulses * s .card .settings .tick ≤ 100000) × ((x .mode ≡ modeOf s → ⊥) × (Still s x → ⊥))))
       only h =
           let m = refusal-laws s x .refused-11 .0 (number-of (accepted s x) refl h) in
           (m .0, (m .1 .0, (m .1 .1 .0, ((λ e. m .1 .1 .1 (inl e)), (λ e. m .1 .1 .1 (inr e))))))
@@ -145,14 +145,14 @@ module _ (s : Session) (x : Sample) where
       kept changed moving (inl e) = changed e
       kept changed moving (inr e) = moving e
 
-      when : Inside s × (CodesMet x × ((x .pulses * s .settings .tick ≤ 100000) × ((x .mode ≡ modeOf s → ⊥) × (Still s x → ⊥))))
+      when : Inside s × (CodesMet x × ((x .pulses * s .card .settings .tick ≤ 100000) × ((x .mode ≡ modeOf s → ⊥) × (Still s x → ⊥))))
           → sampleOf s x ≡ refusalBy 11 s
       when m =
           let number = refusal-laws s x .refused-11 .1 (m .0, (m .1 .0, (m .1 .1 .0, kept (m .1 .1 .1 .0) (m .1 .1 .1 .1)))) in
           refusal-laws s x .refused-as 11 number (λ z. omega arith)
 
-  abbrev pub laws : BrakeLaws (s .settings) (topOf s) (carried s x) (s .desk)
-  laws = brake-laws (s .settings) (topOf s) (carried s x) (s .desk)
+  abbrev pub laws : BrakeLaws (s .card) (topOf s) (carried s x) (s .desk)
+  laws = brake-laws (s .card) (topOf s) (carried s x) (s .desk)
 
   pub desk-after : Accepted s x → sampleOf s x .session .desk ≡ stepped s (carried s x) .desk
   unfolding ranOf
@@ -223,7 +223,7 @@ nothing-else : (s : Session) (n : ℕ) (x : Sample) (a b : Told) → sampleOf s 
 nothing-else s n x a b ea eb =
     let p = told s x a ea in
     let q = told (withCount n s) x b eb in
-    let unseen = brake-unseen (s .settings) (topOf s) (carried s x) (s .desk) (withCount n s .desk .brake) in
+    let unseen = brake-unseen (s .card) (topOf s) (carried s x) (s .desk) (withCount n s .desk .brake) in
     record {
       desk = λ c. ap (withBrake c) (desk-after s x (p .0)) ∙ sym (unseen .desk c) ∙ sym (ap (withBrake c) (desk-after (withCount n s) x (q .0)));
       speed = ap (λ (r : Told). r .speed) (sym (p .1)) ∙ sym (unseen .speed) ∙ ap (λ (r : Told). r .speed) (q .1);
@@ -239,8 +239,8 @@ nothing-else s n x a b ea eb =
 
 -- ---- the ranges
 
-count-inside : (settings : Settings) (train : ℕ) (s : Session) (xs : List Sample) → openSession settings train ≡ given s → countOf (after s xs) ≤ 30000
-count-inside settings train s xs h = inside-only _ (inside-laws .always-inside settings train s xs h) .desk .brake .stood
+count-inside : (card : Card) (train : ℕ) (s : Session) (xs : List Sample) → openSession card train ≡ given s → countOf (after s xs) ≤ 30000
+count-inside card train s xs h = inside-only _ (inside-laws .always-inside card train s xs h) .desk .brake .stood
 
 count-outside : (s : Session) (x : Sample) → 30000 < countOf s → sampleOf s x ≡ refusalBy 8 s
 count-outside s x high =

@@ -10,8 +10,8 @@ use lib.ListN.{length, take, drop, take-append-drop}
 use lib.Seq.{length-take-le}
 use Rattle.leaf.specs.Answers.{Answer, given, refused, refusedAt}
 use Rattle.leaf.specs.Bytes.{long}
-use Rattle.card.specs.declared.Settings.{Settings}
-use Rattle.card.specs.Reading.{readCard}
+use Rattle.card.specs.declared.Card.{Card}
+use Rattle.card.specs.Reading.{cardIn}
 use Rattle.step.specs.declared.Answer.{Answer as Told}
 use Rattle.session.specs.declared.Session.{Session}
 use Rattle.session.specs.Session.{openSession}
@@ -113,28 +113,28 @@ module _ (columns : Columns) where
           ∙ rw (number, later r ride stated bytes k at due .1, ← turn-paper ride (sampleAt bytes k)) (sym (shown-text columns (suc k) (turnOf ride (sampleAt bytes k) .shown)))
       cases false e = rw (refused-prints columns r (ride .ended) (six bytes k) (at .stops e .0), e)
 
-  module _ (settings : Settings) (recording : List ℕ) (s : Session) (head : Opened settings recording s) where
+  module _ (card : Card) (recording : List ℕ) (s : Session) (head : Opened card recording s) where
     abbrev Text : ℕ → Type 0
-    Text k = pieceText columns (freshReceiver settings) (take (placeOf k) recording) ≡ linesOf (Answers columns) (freshRide s) recording k
+    Text k = pieceText columns (freshReceiver card) (take (placeOf k) recording) ≡ linesOf (Answers columns) (freshRide s) recording k
 
     -- the head prints nothing
-    head-text : After settings recording s head 0 → Text 0
+    head-text : After card recording s head 0 → Text 0
     unfolding linesOf shownBy samplesFrom
     head-text after =
         let six-bytes : length (take 6 recording) ≡ 6 = length-take-le 6 recording (head .enough) in
-        part-text columns (freshReceiver settings) (take 6 recording) (omega arith) ∙ rw (after .shown)
+        part-text columns (freshReceiver card) (take 6 recording) (omega arith) ∙ rw (after .shown)
 
-    next-text : (k : ℕ) → placeOf k + 6 ≤ length recording → placeOf k + 6 ≤ long recording 0 → After settings recording s head k → Text k → Text (suc k)
+    next-text : (k : ℕ) → placeOf k + 6 ≤ length recording → placeOf k + 6 ≤ long recording 0 → After card recording s head k → Text k → Text (suc k)
     unfolding linesOf turnText turnAt
     next-text k h p after before =
-        let r = afterBytes settings (take (placeOf k) recording) in
+        let r = afterBytes card (take (placeOf k) recording) in
         let here = sample-text r (runOf (freshRide s) (firstSamples recording k)) (long recording 0) recording k (after .place) p in
-        rw (one-more settings recording s head k h, recording-run (freshRide s) recording 0 k)
-        (piece-append columns (freshReceiver settings) (take (placeOf k) recording) (six recording k) ∙ rw (before, here))
+        rw (one-more card recording s head k h, recording-run (freshRide s) recording 0 k)
+        (piece-append columns (freshReceiver card) (take (placeOf k) recording) (six recording k) ∙ rw (before, here))
 
     texts : (k : ℕ) → placeOf k ≤ length recording → placeOf k ≤ long recording 0 → Text k
-    texts zero h p = head-text (stands settings recording s head 0 h p)
-    texts (suc k) h p = next-text k (omega arith) (omega arith) (stands settings recording s head k (omega arith) (omega arith)) (texts k (omega arith) (omega arith))
+    texts zero h p = head-text (stands card recording s head 0 h p)
+    texts (suc k) h p = next-text k (omega arith) (omega arith) (stands card recording s head k (omega arith) (omega arith)) (texts k (omega arith) (omega arith))
 
   -- an end that shows nothing prints nothing
   no-end : (r : Receiver) → shownOf (endOf r .shown) ≡ [] → endText columns r ≡ []
@@ -143,26 +143,26 @@ module _ (columns : Columns) where
 
   -- ---- a good recording and then the end
 
-  module _ (settings : Settings) (recording : List ℕ) (good : goodRecording recording ≡ true) where
-    lines-as-whole : (s : Session) → openSession settings (trainOf recording) ≡ given s
-        → pieceText columns (freshReceiver settings) recording ++ endText columns (afterBytes settings recording)
+  module _ (card : Card) (recording : List ℕ) (good : goodRecording recording ≡ true) where
+    lines-as-whole : (s : Session) → openSession card (trainOf recording) ≡ given s
+        → pieceText columns (freshReceiver card) recording ++ endText columns (afterBytes card recording)
         ≡ linesOf (Answers columns) (freshRide s) recording (samplesIn recording)
     lines-as-whole s opens =
         let same = good-stated recording good in
         let whole = good-met recording good .whole in
-        let all = texts settings recording s (good-head recording good settings s opens) (samplesIn recording) (omega arith) (omega arith) in
-        let end = no-end (afterBytes settings recording) (whole-ends settings recording good s opens .0) in
+        let all = texts card recording s (good-head recording good card s opens) (samplesIn recording) (omega arith) (omega arith) in
+        let end = no-end (afterBytes card recording) (whole-ends card recording good s opens .0) in
         rw (end, append-nil) (rw (good-all recording good) at all)
 
     refused-text : (n : ℕ)
-        → openedWith (begun settings (long recording 0) 5) (openSession settings (trainOf recording)) ≡ refusedWith n (begun settings (long recording 0) 5)
-        → pieceText columns (freshReceiver settings) recording ++ endText columns (afterBytes settings recording) ≡ refusedLine n
+        → openedWith (begun card (long recording 0) 5) (openSession card (trainOf recording)) ≡ refusedWith n (begun card (long recording 0) 5)
+        → pieceText columns (freshReceiver card) recording ++ endText columns (afterBytes card recording) ≡ refusedLine n
     refused-text n out =
-        let fresh = freshReceiver settings in
-        let a = withStatus (Refused n) (begun settings (long recording 0) 5) in
+        let fresh = freshReceiver card in
+        let a = withStatus (Refused n) (begun card (long recording 0) 5) in
         let first = take 6 recording in
         let rest = drop 6 recording in
-        let e = rw append-nil at (refused-head recording good settings n [] out) in
+        let e = rw append-nil at (refused-head recording good card n [] out) in
         let r : receivedAll fresh first ≡ a = ap (λ (z : Receiver × List (Answer Told)). z .0) e in
         let told : shownAll fresh first ≡ refused n ∷ [] = ap (λ (z : Receiver × List (Answer Told)). z .1) e in
         let six-bytes : length first ≡ 6 = length-take-le 6 recording (good-enough recording good) in
@@ -170,33 +170,33 @@ module _ (columns : Columns) where
         let cut : recording ≡ first ++ rest = sym (take-append-drop 6 recording) in
         let all : pieceText columns fresh recording ≡ refusedLine n =
         ap (pieceText columns fresh) cut ∙ piece-append columns fresh first rest ∙ rw (r, head, refused-prints columns a n rest refl, append-nil) in
-        let after : afterBytes settings recording ≡ a =
-        ap (receivedAll fresh) cut ∙ ap (λ (z : Receiver × List (Answer Told)). z .0) (refused-head recording good settings n rest out) in
+        let after : afterBytes card recording ≡ a =
+        ap (receivedAll fresh) cut ∙ ap (λ (z : Receiver × List (Answer Told)). z .0) (refused-head recording good card n rest out) in
         let end : endText columns a ≡ [] = no-end a (rw (refused-ends a n refl)) in
         rw (all, after, end, append-nil)
 
     -- where the opening is refused, its line
-    text-as-whole : pieceText columns (freshReceiver settings) recording ++ endText columns (afterBytes settings recording)
-        ≡ startedText (Answers columns) recording (samplesIn recording) (openSession settings (trainOf recording))
+    text-as-whole : pieceText columns (freshReceiver card) recording ++ endText columns (afterBytes card recording)
+        ≡ startedText (Answers columns) recording (samplesIn recording) (openSession card (trainOf recording))
     unfolding startedText openedWith
-    text-as-whole = cases (openSession settings (trainOf recording)) refl
+    text-as-whole = cases (openSession card (trainOf recording)) refl
       where
-        cases : (a : Answer Session) → openSession settings (trainOf recording) ≡ a
-            → pieceText columns (freshReceiver settings) recording ++ endText columns (afterBytes settings recording) ≡ startedText (Answers columns) recording (samplesIn recording) a
+        cases : (a : Answer Session) → openSession card (trainOf recording) ≡ a
+            → pieceText columns (freshReceiver card) recording ++ endText columns (afterBytes card recording) ≡ startedText (Answers columns) recording (samplesIn recording) a
         cases (given s) e = lines-as-whole s e
         cases (refused n) e = refused-text n (rw e)
         cases (refusedAt n place) e = refused-text n (rw e)
 
 -- ---- so is all that is printed, with any card
 
-pub prints-as-whole : (columns : Columns) (card : List ℕ) (pieces : List (List ℕ)) → goodRecording (flatten pieces) ≡ true
-    → linePrinted columns card pieces ≡ printedRide columns card (flatten pieces)
+pub prints-as-whole : (columns : Columns) (area : List ℕ) (pieces : List (List ℕ)) → goodRecording (flatten pieces) ≡ true
+    → linePrinted columns area pieces ≡ printedRide columns area (flatten pieces)
 unfolding linePrinted startText startOn begunText lineText printedRide printedAs cardText
-prints-as-whole columns card pieces good = cases (readCard card highest) refl
+prints-as-whole columns area pieces good = cases (cardIn area highest) refl
   where
-    cases : (a : Answer Settings) → readCard card highest ≡ a → linePrinted columns card pieces ≡ printedRide columns card (flatten pieces)
-    cases (given settings) read =
-        line-printed columns card settings pieces read
-        ∙ rw (append-nil, text-as-whole columns settings (flatten pieces) good, read, starts-good settings (flatten pieces) good)
+    cases : (a : Answer Card) → cardIn area highest ≡ a → linePrinted columns area pieces ≡ printedRide columns area (flatten pieces)
+    cases (given card) read =
+        line-printed columns area card pieces read
+        ∙ rw (append-nil, text-as-whole columns card (flatten pieces) good, read, starts-good card (flatten pieces) good)
     cases (refused n) read = rw (read, append-nil)
     cases (refusedAt n place) read = rw (read, append-nil)

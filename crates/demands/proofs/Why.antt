@@ -1,15 +1,13 @@
 -- Request f holds, and its examples.
-use mathlib.Core.Path.{refl, ap}
-use Rattle.card.specs.declared.Settings.{Settings}
+use mathlib.Core.Path.{refl}
 use Rattle.step.specs.Reason.{reasonOf}
 use Rattle.session.specs.Why.{whyNow, askedOf}
 use Rattle.printed.proofs.Silence.{print-silence}
 use Rattle.printed_why.proofs.Silence.{why-silence}
-use Rattle.demands.specs.Why.{WhyLaws, WhyExamples, asks, told}
+use Rattle.demands.specs.Why.{WhyLaws, WhyExamples, asks}
 use Rattle.demands.proofs.Computes.{definitions}
 use Rattle.demands.proofs.WhyAsked.{asked-exactly, numbered}
-use Rattle.demands.proofs.Demand3.{settings-same}
-use Rattle.demands.proofs.WhyAlike.{told-alike}
+use Rattle.demands.proofs.WhyAlike.{told-alike, told-same}
 use Rattle.demands.proofs.WhySince.{since, began, age-inside, age-outside}
 
 pub why-laws : WhyLaws
@@ -23,7 +21,7 @@ why-laws =
       age-outside = age-outside;
       silent-column = λ form a b recording m. print-silence form a b recording (m .whole-a) (m .whole-b) (m .same);
       silent-why = λ telling a b recording m. why-silence telling a b recording (m .whole-a) (m .whole-b) (m .same);
-      versions-told = λ a b h g s t read-a read-b m train xs. ap (λ (q : Settings). told q train xs) (settings-same a b h g s t read-a read-b m);
+      versions-told = told-same;
       functions-told = told-alike;
     }
 

@@ -1,5 +1,6 @@
 -- Request f, of a session and a sample: what is told is what the definition says in plain facts, and nothing else is.
 use Prim.Native.Nat.{ℕ, zero, suc, _≤_}
+use native.Mathlib.Omega.{arith}
 use mathlib.Core.Bool.{Bool, true, false}
 use mathlib.Core.Path.{_≡_, refl, sym, ap, subst, _∙_}
 use lib.Dec.{lit≤}
@@ -15,7 +16,7 @@ use Rattle.session.specs.declared.Outcome.the-variants as outcome
 use Rattle.session.specs.Session.{withDesk, refusedBy, carried, stepped, ranOf, sampleOf}
 use Rattle.session.specs.Runs.{accepted}
 use Rattle.session.proofs.Runs.{accepted-runs, refused-stays}
-use Rattle.step_laws.specs.Reason.{Limits}
+use Rattle.step_laws.specs.Reason.{reasonPlace, Limits}
 use Rattle.step_laws.specs.Reason as laws
 use Rattle.step_laws.proofs.Brake.{brake-laws}
 use Rattle.step_laws.proofs.Reason.{reason-laws}
@@ -31,7 +32,7 @@ use Rattle.demands.specs.Why as paper
 use Rattle.demands.proofs.Answered.{exactly, samples-exactly}
 use Rattle.demands.proofs.Standing.{answered-refused, answer-is}
 
--- ---- a number is a reason's
+-- ---- a place is a reason's
 
 abbrev reasonAt : ℕ → Reason
 reasonAt zero = reason.None
@@ -41,20 +42,22 @@ reasonAt (suc (suc (suc zero))) = reason.Bts
 reasonAt (suc (suc (suc (suc zero)))) = reason.Main
 reasonAt (suc (suc (suc (suc (suc zero))))) = reason.Alongside
 reasonAt (suc (suc (suc (suc (suc (suc zero)))))) = reason.Crossing
-reasonAt (suc (suc (suc (suc (suc (suc (suc n))))))) = reason.Limit
+reasonAt (suc (suc (suc (suc (suc (suc (suc zero))))))) = reason.Limit
+reasonAt (suc (suc (suc (suc (suc (suc (suc (suc n)))))))) = reason.Paired
 
-at-number : (r : Reason) → reasonAt (reasonNumber r) ≡ r
-at-number reason.None = refl
-at-number reason.Vmax = refl
-at-number reason.Train = refl
-at-number reason.Bts = refl
-at-number reason.Main = refl
-at-number reason.Alongside = refl
-at-number reason.Crossing = refl
-at-number reason.Limit = refl
+at-place : (r : Reason) → reasonAt (reasonPlace r) ≡ r
+at-place reason.None = refl
+at-place reason.Vmax = refl
+at-place reason.Train = refl
+at-place reason.Bts = refl
+at-place reason.Main = refl
+at-place reason.Alongside = refl
+at-place reason.Crossing = refl
+at-place reason.Limit = refl
+at-place reason.Paired = refl
 
-same-reason : (r q : Reason) → reasonNumber r ≡ reasonNumber q → r ≡ q
-same-reason r q e = sym (at-number r) ∙ ap reasonAt e ∙ at-number q
+same-reason : (r q : Reason) → reasonPlace r ≡ reasonPlace q → r ≡ q
+same-reason r q e = sym (at-place r) ∙ ap reasonAt e ∙ at-place q
 
 -- ---- one answer has one reason
 
@@ -68,7 +71,7 @@ same-why v w a b c d e =
 
 one-why : (t : Session) (a : Answered) (v w : Why) → WhyMet t a v → WhyMet t a w → v ≡ w
 one-why t a v w g h =
-    let one = reason-laws (t .settings) (topOf t) (t .desk) .only-one (a .speed) _ _ _ _ (g .true-one) (h .true-one) in
+    let one = reason-laws (t .card .settings) (topOf t) (t .desk) .only-one (a .speed) _ _ _ _ (g .true-one) (h .true-one) in
     same-why v w (same-reason (v .reason) (w .reason) (one .0)) (g .value ∙ sym (h .value)) (one .1) (g .cause ∙ sym (h .cause)) (g .since ∙ sym (h .since))
 
 -- ---- a sample that is run
@@ -83,12 +86,12 @@ module _ (s : Session) (x : Sample) where
   ran-met : WhyMet next answer (whyNow next)
   unfolding whyNow
   ran-met =
-      let laws = reason-laws (s .settings) (topOf s) (next .desk) in
-      let same : answer .speed ≡ supervisedOf (s .settings) (topOf s) (next .desk) = speed-laws (s .settings) (topOf s) .speed-answered (carried s x) (s .desk) in
+      let laws = reason-laws (s .card .settings) (topOf s) (next .desk) in
+      let same : answer .speed ≡ supervisedOf (s .card .settings) (topOf s) (next .desk) = speed-laws (s .card) (topOf s) .speed-answered (carried s x) (s .desk) in
       record {
         value = laws .value ∙ sym same;
-        true-one = subst (λ (v : ℕ). Reasons next v (reasonNumber (namedIn next .reason)) (namedIn next .age)) (sym same) (laws .true-one);
-        cause = sym (brake-laws (s .settings) (topOf s) (carried s x) (s .desk) .cause-told);
+        true-one = subst (λ (v : ℕ). Reasons next v (reasonPlace (namedIn next .reason)) (namedIn next .age)) (sym same) (laws .true-one);
+        cause = sym (brake-laws (s .card) (topOf s) (carried s x) (s .desk) .cause-told);
         since = refl;
       }
 
@@ -133,14 +136,27 @@ module _ (s : Session) (x : Sample) where
 
 -- ---- the numbers
 
-pub numbered : (t : Session) (speed number age : ℕ) → Reasons t speed number age → (1 ≤ number) × (number ≤ 7)
-numbered t speed number age h = of (h .stands)
+pub numbered : (t : Session) (speed age : ℕ) (why : Reason) → Reasons t speed (reasonPlace why) age → (1 ≤ reasonNumber why) × (reasonNumber why ≤ 7)
+numbered t speed age why h = of why (some (h .stands))
   where
-    of : {n v a : ℕ} → Limits (t .settings) (topOf t) (t .desk) n v a → (1 ≤ n) × (n ≤ 7)
-    of laws.Limits.vmax = (lit≤ tt, lit≤ tt)
-    of laws.Limits.train = (lit≤ tt, lit≤ tt)
-    of (laws.Limits.bts on) = (lit≤ tt, lit≤ tt)
-    of (laws.Limits.main on) = (lit≤ tt, lit≤ tt)
-    of (laws.Limits.alongside on) = (lit≤ tt, lit≤ tt)
-    of (laws.Limits.crossing on) = (lit≤ tt, lit≤ tt)
-    of (laws.Limits.limit on) = (lit≤ tt, lit≤ tt)
+    -- no limit has place 0
+    some : {n v a : ℕ} → Limits (t .card .settings) (topOf t) (t .desk) n v a → 1 ≤ n
+    some laws.Limits.vmax = lit≤ tt
+    some laws.Limits.train = lit≤ tt
+    some (laws.Limits.bts on) = lit≤ tt
+    some (laws.Limits.main on) = lit≤ tt
+    some (laws.Limits.alongside on) = lit≤ tt
+    some (laws.Limits.crossing on) = lit≤ tt
+    some (laws.Limits.limit on) = lit≤ tt
+    some (laws.Limits.paired speed m on) = lit≤ tt
+
+    of : (r : Reason) → 1 ≤ reasonPlace r → (1 ≤ reasonNumber r) × (reasonNumber r ≤ 7)
+    of reason.None low = absurd (omega arith)
+    of reason.Vmax low = (lit≤ tt, lit≤ tt)
+    of reason.Train low = (lit≤ tt, lit≤ tt)
+    of reason.Bts low = (lit≤ tt, lit≤ tt)
+    of reason.Main low = (lit≤ tt, lit≤ tt)
+    of reason.Alongside low = (lit≤ tt, lit≤ tt)
+    of reason.Crossing low = (lit≤ tt, lit≤ tt)
+    of reason.Limit low = (lit≤ tt, lit≤ tt)
+    of reason.Paired low = (lit≤ tt, lit≤ tt)

@@ -13,7 +13,7 @@ use Rattle.leaf.specs.Choosing.{pick, and-split}
 use Rattle.leaf.specs.Numbers.{agedOf}
 use Rattle.leaf.specs.Answers.{given}
 use Rattle.leaf.specs.declared.Refusal.the-variants.{Number}
-use Rattle.card.specs.declared.Settings.{Settings}
+use Rattle.card.specs.declared.Card.{Card}
 use Rattle.desk.specs.Brake.{brakeAge}
 use Rattle.step.specs.Brake.{staysOn}
 use Rattle.session.specs.declared.Sample.{Sample}
@@ -91,7 +91,7 @@ module _ (s : Session) (x : Sample) where
   age-after h =
       let runs = accepted-runs s x h in
       ap (λ (r : Sampled). ageOf (r .session)) runs
-      ∙ brake-laws (s .settings) (topOf s) (carried s x) (s .desk) .age-then
+      ∙ brake-laws (s .card) (topOf s) (carried s x) (s .desk) .age-then
       ∙ ap (λ (r : Sampled). ageFrom (causeOf s) (causeOf (r .session)) (ageOf s)) (sym runs)
 
 -- not braked before a sample, or not after it, it is 0; braked before and after, it goes on
@@ -146,19 +146,19 @@ off-zero s (x ∷ xs) h off = off-zero (sampleOf s x .session) xs (cases (accept
         let same = ap (λ (r : Sampled). r .session) (refused-stays s x e) in
         ap ageOf same ∙ h (sym (ap causeOf same) ∙ z)
 
-module _ (settings : Settings) (train : ℕ) (s : Session) (h : openSession settings train ≡ given s) where
+module _ (card : Card) (train : ℕ) (s : Session) (h : openSession card train ≡ given s) where
   opens-off : causeOf s ≡ 0
-  opens-off = ap causeOf (opening-fresh settings train s h)
+  opens-off = ap causeOf (opening-fresh card train s h)
 
   opens-at-zero : ageOf s ≡ 0
-  opens-at-zero = ap ageOf (opening-fresh settings train s h)
+  opens-at-zero = ap ageOf (opening-fresh card train s h)
 
 pub since : Sinces (λ s xs. whyNow (after s xs) .since)
 unfolding whyNow
 since =
     record {
-      braked = λ settings train s xs n h for. braked-for s xs n for;
-      not-braked = λ settings train s xs h off. off-zero s xs (λ z. opens-at-zero settings train s h) off;
+      braked = λ card train s xs n h for. braked-for s xs n for;
+      not-braked = λ card train s xs h off. off-zero s xs (λ z. opens-at-zero card train s h) off;
     }
 
 -- ---- a braked desk has such a number
@@ -183,20 +183,20 @@ began-in s (x ∷ xs) h = cases (eqb (causeOf s) 0) refl (began-in (sampleOf s x
     cases true e (inl on) = inr ([], (x, (xs, (refl, (eqb-true (causeOf s) 0 e, on)))))
     cases false e (inl on) = inl (eqb-false (causeOf s) 0 e, on)
 
-pub began : (settings : Settings) (train : ℕ) (s : Session) (xs : List Sample) → openSession settings train ≡ given s
+pub began : (card : Card) (train : ℕ) (s : Session) (xs : List Sample) → openSession card train ≡ given s
     → Braked (after s xs) → (n : ℕ) × BrakedFor s xs n
-began settings train s xs h braked = cases (began-in s (acceptedOf s xs) (λ z. braked (ap causeOf (sym (after-accepted s xs)) ∙ z)))
+began card train s xs h braked = cases (began-in s (acceptedOf s xs) (λ z. braked (ap causeOf (sym (after-accepted s xs)) ∙ z)))
   where
     cases : BrakedOn s (acceptedOf s xs) ⊎ ((before : List Sample) × ((at : Sample) × ((behind : List Sample)
         × ((acceptedOf s xs ≡ before ++ (at ∷ behind)) × ((causeOf (after s before) ≡ 0) × BrakedOn (sampleOf (after s before) at .session) behind)))))
         → (n : ℕ) × BrakedFor s xs n
-    cases (inl on) = absurd (braked-now s (acceptedOf s xs) on (opens-off settings train s h))
+    cases (inl on) = absurd (braked-now s (acceptedOf s xs) on (opens-off card train s h))
     cases (inr (before, (at, (behind, (same, (off, on)))))) = (length behind, paper.BrakedFor.since before at behind same off on)
 
 -- ---- the ranges
 
-pub age-inside : (settings : Settings) (train : ℕ) (s : Session) (xs : List Sample) → openSession settings train ≡ given s → ageOf (after s xs) ≤ 30000
-age-inside settings train s xs h = inside-only _ (inside-laws .always-inside settings train s xs h) .desk .brake .age
+pub age-inside : (card : Card) (train : ℕ) (s : Session) (xs : List Sample) → openSession card train ≡ given s → ageOf (after s xs) ≤ 30000
+age-inside card train s xs h = inside-only _ (inside-laws .always-inside card train s xs h) .desk .brake .age
 
 pub age-outside : (s : Session) (x : Sample) → 30000 < ageOf s → askedOf s x ≡ record { session = s; told = Refused (Number 8) }
 unfolding askedOf

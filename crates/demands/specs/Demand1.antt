@@ -13,9 +13,9 @@ use lib.ListN.{length}
 use lib.Ieee.{Float}
 use Rattle.leaf.specs.Answers.{Answer, given, refused, refusedAt}
 use Rattle.leaf.specs.declared.Refusal.the-variants.{Number}
+use Rattle.card.specs.declared.Card.{Card}
 use Rattle.card.specs.declared.Settings.{Settings}
-use Rattle.card.specs.Card.{baseKind}
-use Rattle.card.specs.Plain.{FirstOut, SettingsMet, ReadAs, WrittenAs}
+use Rattle.card.specs.Plain.{ReadAs, WrittenAs}
 use Rattle.card.specs.Reading.{readCard}
 use Rattle.card.specs.Writing.{writeCard, written, leaves}
 use Rattle.tone.specs.Facts as sheet
@@ -27,12 +27,12 @@ use Rattle.session.specs.declared.Sample.{Sample}
 use Rattle.session.specs.declared.Session.{Session}
 use Rattle.session.specs.declared.Sampled.{Sampled}
 use Rattle.session.specs.declared.Outcome.the-variants.{Answered, Refused}
-use Rattle.session.specs.Types.{typeSpeed}
-use Rattle.session.specs.Session.{openingVersion, freshSession, openSession, ranOf, sampleOf}
+use Rattle.session.specs.Session.{ranOf, sampleOf}
 use Rattle.rides.specs.Recording.{RecordingMet, trainOf, samplesOf}
 use Rattle.rides.specs.Ride.{wholeRide}
 use Rattle.laws.specs.Ranges.{Inside}
 use Rattle.laws.specs.Refusals.{CodesMet, ModeMet}
+use Rattle.demands.specs.Opening.{OpenedAs, OpensExactly}
 
 -- the answer is as said, and nothing else is
 abbrev pub Exactly : {A : Type 0} → A → (A → Type 0) → Type 0
@@ -49,19 +49,7 @@ pub data ClassifiedAs (area : List ℕ) (tone : Float) : Answer Reading → Type
   refused-12 : (place : ℕ) → sheet.FirstFault area place → ClassifiedAs area tone (refusedAt 12 place)
   reads : sheet.Accepted area → ClassifiedAs area tone (given (readFrom 0 (rowsOf area 12) tone))
 
--- ---- settings and a train type: "opening 5, 7"
-
--- "train type not 1..8, or faster than vmax" is not so
-pub record TypeMet (train vmax : ℕ) : Type 0 where
-  pub low : 1 ≤ train
-  pub high : train ≤ 8
-  pub slow : typeSpeed train ≤ vmax
-
-pub data OpenedAs (s : Settings) (train : ℕ) : Answer Session → Type 0 where
-  -- "setting out of range, with place of the first"
-  refused-5 : (at : ℕ) → FirstOut baseKind openingVersion s at → OpenedAs s train (refusedAt 5 at)
-  refused-7 : SettingsMet openingVersion s → (TypeMet train (s .vmax) → ⊥) → OpenedAs s train (refused 7)
-  opened : SettingsMet openingVersion s → TypeMet train (s .vmax) → OpenedAs s train (given (freshSession s train))
+-- ---- a version, settings and a train type: "2, 5, 7" (g4), in Opening.antt (`OpenedAs`)
 
 -- ---- a session and a sample: "sample 8, 9, 10, 11"
 
@@ -75,12 +63,12 @@ pub data SampledAs (s : Session) (x : Sample) : Sampled → Type 0 where
   -- "beacon, buttons or mode out of range"
   refused-9 : Inside s → (CodesMet x → ⊥) → SampledAs s x (refusalBy 9 s)
   -- "pulses × tick length above 100,000"
-  refused-10 : Inside s → CodesMet x → 100000 < x .pulses * s .settings .tick → SampledAs s x (refusalBy 10 s)
+  refused-10 : Inside s → CodesMet x → 100000 < x .pulses * s .card .settings .tick → SampledAs s x (refusalBy 10 s)
   -- "mode changed", 02 b: "while not at standstill"
-  refused-11 : Inside s → CodesMet x → x .pulses * s .settings .tick ≤ 100000 → (ModeMet s x → ⊥) → SampledAs s x (refusalBy 11 s)
-  answered : Inside s → CodesMet x → x .pulses * s .settings .tick ≤ 100000 → ModeMet s x → SampledAs s x (ranOf s x)
+  refused-11 : Inside s → CodesMet x → x .pulses * s .card .settings .tick ≤ 100000 → (ModeMet s x → ⊥) → SampledAs s x (refusalBy 11 s)
+  answered : Inside s → CodesMet x → x .pulses * s .card .settings .tick ≤ 100000 → ModeMet s x → SampledAs s x (ranOf s x)
 
--- ---- settings and a recording: "a ride 14, 7, its samples"
+-- ---- a card and a recording: "a ride 14, 7, its samples"; 02 g: what the opening says of the card, 2 or 5, stands before 7
 
 -- its samples: each that is accepted is answered, the first that is refused ends the ride, and what came before stays
 pub data ShownAs : Session → List Sample → List (Answer Told) → Type 0 where
@@ -89,14 +77,15 @@ pub data ShownAs : Session → List Sample → List (Answer Told) → Type 0 whe
       → SampledAs s x (record { session = after; outcome = Answered a }) → ShownAs after xs rest → ShownAs s (x ∷ xs) (given a ∷ rest)
   ended : {s : Session} {x : Sample} {n : ℕ} {xs : List Sample} → SampledAs s x (refusalBy n s) → ShownAs s (x ∷ xs) (refused n ∷ [])
 
-pub data RiddenAs (settings : Settings) (recording : List ℕ) : Answer (List (Answer Told)) → Type 0 where
+pub data RiddenAs (card : Card) (recording : List ℕ) : Answer (List (Answer Told)) → Type 0 where
   -- "recording not exactly as long as stated, length not 6 + 6n with n ≤ 10,000, or version not 1"
-  refused-14 : ((n : ℕ) → RecordingMet recording n → ⊥) → RiddenAs settings recording (refused 14)
-  -- settings out of range, which no card that was read has
-  refused-5 : {n at : ℕ} → RecordingMet recording n → OpenedAs settings (trainOf recording) (refusedAt 5 at) → RiddenAs settings recording (refusedAt 5 at)
-  refused-7 : {n : ℕ} → RecordingMet recording n → OpenedAs settings (trainOf recording) (refused 7) → RiddenAs settings recording (refused 7)
-  ridden : {n : ℕ} {s : Session} {shown : List (Answer Told)} → RecordingMet recording n → OpenedAs settings (trainOf recording) (given s)
-      → ShownAs s (samplesOf recording) shown → RiddenAs settings recording (given shown)
+  refused-14 : ((n : ℕ) → RecordingMet recording n → ⊥) → RiddenAs card recording (refused 14)
+  -- a version that is none, or settings out of range beside it, which no card that was read has
+  refused-2 : {n : ℕ} → RecordingMet recording n → OpenedAs card (trainOf recording) (refused 2) → RiddenAs card recording (refused 2)
+  refused-5 : {n at : ℕ} → RecordingMet recording n → OpenedAs card (trainOf recording) (refusedAt 5 at) → RiddenAs card recording (refusedAt 5 at)
+  refused-7 : {n : ℕ} → RecordingMet recording n → OpenedAs card (trainOf recording) (refused 7) → RiddenAs card recording (refused 7)
+  ridden : {n : ℕ} {s : Session} {shown : List (Answer Told)} → RecordingMet recording n → OpenedAs card (trainOf recording) (given s)
+      → ShownAs s (samplesOf recording) shown → RiddenAs card recording (given shown)
 
 -- ---- the demand
 
@@ -108,6 +97,7 @@ pub record Demand1 : Type 0 where
       → leaves (writeCard version s (length buffer)) version s buffer ≡ buffer
   pub sheets : (area : List ℕ) → Exactly (readSheet area) (SheetReadAs area)
   pub tones : (area : List ℕ) (tone : Float) → Exactly (classifyOf area tone) (ClassifiedAs area tone)
-  pub openings : (s : Settings) (train : ℕ) → Exactly (openSession s train) (OpenedAs s train)
+  -- of the opening from loose settings (Opening.antt)
+  pub openings : OpensExactly
   pub samples : (s : Session) (x : Sample) → Exactly (sampleOf s x) (SampledAs s x)
-  pub rides : (settings : Settings) (recording : List ℕ) → Exactly (wholeRide settings recording) (RiddenAs settings recording)
+  pub rides : (card : Card) (recording : List ℕ) → Exactly (wholeRide card recording) (RiddenAs card recording)

@@ -9,6 +9,7 @@ use mathlib.Core.Logic.{_↔_}
 use mathlib.Core.Path.{_≡_}
 use lib.ListN.{length}
 use Rattle.leaf.specs.Answers.{given}
+use Rattle.card.specs.declared.Card.{Card}
 use Rattle.card.specs.declared.Settings.{Settings}
 use Rattle.card.specs.Plain.{Known, CardMet, WriteMet}
 use Rattle.card.specs.Reading.{settingsOf, readCard}
@@ -24,10 +25,10 @@ use Rattle.laws.specs.Refusals.{Accepted}
 pub record Demand2 : Type 0 where
   -- "It opens in CONV with the start row as main (age 1 in the first sample), last code 0." ".. every session we make is inside": an opened
   -- session is the fresh one, inside its ranges, and so is every session after it, whatever samples come, accepted or refused.
-  pub opened : (s : Settings) (train : ℕ) (u : Session) → openSession s train ≡ given u → (u ≡ freshSession s train) × Inside u
-  pub always-inside : (s : Settings) (train : ℕ) (u : Session) (xs : List Sample) → openSession s train ≡ given u → Inside (after u xs)
+  pub opened : (card : Card) (train : ℕ) (u : Session) → openSession card train ≡ given u → (u ≡ freshSession card train) × Inside u
+  pub always-inside : (card : Card) (train : ℕ) (u : Session) (xs : List Sample) → openSession card train ≡ given u → Inside (after u xs)
   -- "The session is handed in and handed back with each sample's answer.": each accepted sample's answer, and the desk after it, are the
-  -- definition's; the rest of the session, settings and train type, stays. (What a refused one gives is demand 1's.)
+  -- definition's; the rest of the session, card and train type, stays. (What a refused one gives is demand 1's.)
   pub answered : (s : Session) (x : Sample) → Accepted s x
       → sampleOf s x ≡ (let e = stepped s (carried s x) in record { session = withDesk (e .desk) s; outcome = Answered (e .answer) })
   -- A card is accepted exactly when its version is known and its layout met, and it is read as the settings of its bytes.

@@ -1,6 +1,7 @@
 -- DEMAND 3. "Old bytes stay silent. Same speaking bytes, same answers for every sequence of samples; version 1 answers like version 2 with all
 -- later functions off; two cards that differ only in later functions answer alike up to, not including, the first accepted sample at which
--- a differing function speaks; a reader told to know version 1 refuses version 2 by name."
+-- a differing function speaks; a reader told to know version 1 refuses version 2 by name." 02 g: "Demand 3 gains: a reader of highest 1 or 2
+-- refuses version 3 by name, version 3 speaks beside older cards at the first 10 or 11 read, and bytes 44 to 48 at the second."
 --
 -- Stated of the sessions that demand 2 defines: `rideOf area highest train xs` is all that a desk answers
 -- with this card, a reader told to know the versions up to `highest`, this train type, and these samples.
@@ -13,9 +14,9 @@ use lib.ListN.{length}
 use Rattle.leaf.specs.Choosing.{pick}
 use Rattle.leaf.specs.Bytes.{byte}
 use Rattle.leaf.specs.Answers.{given, refused}
-use Rattle.card.specs.declared.Settings.{Settings}
+use Rattle.card.specs.declared.Card.{Card}
 use Rattle.card.specs.Card.{lengthOf, speaks, Same}
-use Rattle.card.specs.Reading.{settingsOf, readCard}
+use Rattle.card.specs.Reading.{settingsOf, readCard, cardIn}
 use Rattle.session.specs.declared.Sample.{Sample}
 use Rattle.session.specs.declared.Outcome.{Outcome}
 use Rattle.text.specs.Decimal.{newline}
@@ -51,7 +52,7 @@ SilentPrint print = (columns : Columns) (a b recording : List ℕ) → SameSpeak
 
 -- 3b. So do accepted cards of version 1 and 2 with the same common settings and all four functions off.
 abbrev pub VersionsPrint : Printer → Type 0
-VersionsPrint print = (columns : Columns) (a b recording : List ℕ) (s t : Settings) → readCard a highest ≡ given s → readCard b highest ≡ given t
+VersionsPrint print = (columns : Columns) (a b recording : List ℕ) (c t : Card) → cardIn a highest ≡ given c → cardIn b highest ≡ given t
     → SameWithout a b → print columns a recording ≡ print columns b recording
 
 -- the first n lines of a text: up to and with its n-th newline, or all of it
@@ -60,11 +61,11 @@ firstLines [] n = []
 firstLines (b ∷ rest) zero = []
 firstLines (b ∷ rest) (suc n) = b ∷ firstLines rest (pick (eqb b newline) n (suc n))
 
--- 3c. Two cards that differ only in later functions print the same lines: the heading, and those of the samples up to, and not including, the
+-- 3c. Two cards that differ only in version and later functions print the same lines: the heading, and those of the samples up to, and not including, the
 -- first accepted one at which a differing function speaks.
 abbrev pub FunctionsPrint : Printer → Type 0
-FunctionsPrint print = (columns : Columns) (a b recording : List ℕ) (s t : Settings) → readCard a highest ≡ given s → readCard b highest ≡ given t
-    → Same a b 3 39 → (let k = untilSpeaks s t (trainOf recording) (samplesOf recording) in
+FunctionsPrint print = (columns : Columns) (a b recording : List ℕ) (c t : Card) → cardIn a highest ≡ given c → cardIn b highest ≡ given t
+    → Same a b 3 39 → (let k = untilSpeaks c t (trainOf recording) (samplesOf recording) in
     firstLines (print columns a recording) (suc k) ≡ firstLines (print columns b recording) (suc k))
 
 -- ---- the demand
@@ -76,15 +77,18 @@ pub record Demand3 : Type 0 where
       → (readCard b h ≡ readCard a h) × ((train : ℕ) (xs : List Sample) → rideOf b h train xs ≡ rideOf a h train xs)
   -- 3b. Accepted cards of version 1 and 2 with the same common settings and all four functions off: the same answers for every train type and
   -- every list of samples.
-  pub versions-silent : (a b : List ℕ) (h g : ℕ) (s t : Settings) → readCard a h ≡ given s → readCard b g ≡ given t → SameWithout a b
+  pub versions-silent : (a b : List ℕ) (h g : ℕ) (c t : Card) → cardIn a h ≡ given c → cardIn b g ≡ given t → SameWithout a b
       → (train : ℕ) (xs : List Sample) → rideOf a h train xs ≡ rideOf b g train xs
-  -- 3c. Two accepted cards that differ only in later functions and their settings (the same bytes 3 to 38): for every train type and every
+  -- 3c. Two accepted cards that differ only in version, later functions and their settings (the same bytes 3 to 38): for every train type and every
   -- list of samples the answers are the same up to, and not including, the first accepted sample at which a differing function speaks.
-  pub functions-silent : (a b : List ℕ) (h g : ℕ) (s t : Settings) → readCard a h ≡ given s → readCard b g ≡ given t → Same a b 3 39
-      → (train : ℕ) (xs : List Sample) → firstOf (untilSpeaks s t train xs) (rideOf a h train xs) ≡ firstOf (untilSpeaks s t train xs) (rideOf b g train xs)
+  pub functions-silent : (a b : List ℕ) (h g : ℕ) (c t : Card) → cardIn a h ≡ given c → cardIn b g ≡ given t → Same a b 3 39
+      → (train : ℕ) (xs : List Sample) → firstOf (untilSpeaks c t train xs) (rideOf a h train xs) ≡ firstOf (untilSpeaks c t train xs) (rideOf b g train xs)
   -- 3d. "3 | card version above the reader's highest": a reader told to know version 1 refuses version 2 by name, and there is no more.
   pub version-2-refused : (area : List ℕ) → 3 ≤ length area → byte area 2 ≡ 2
       → (readCard area 1 ≡ refused 3) × ((train : ℕ) (xs : List Sample) → rideOf area 1 train xs ≡ refused 3)
+  -- 02 g: "a reader of highest 1 or 2 refuses version 3 by name"
+  pub version-3-refused : (area : List ℕ) (h : ℕ) → 1 ≤ h → h ≤ 2 → 3 ≤ length area → byte area 2 ≡ 3
+      → (readCard area h ≡ refused 3) × ((train : ℕ) (xs : List Sample) → rideOf area h train xs ≡ refused 3)
   -- and the same of the ride as it is printed
   pub silent-print : SilentPrint printedRide
   pub versions-print : VersionsPrint printedRide
@@ -95,6 +99,22 @@ pub record Demand3 : Type 0 where
 -- card R, version 2, and so many functions; with the reminder on, X 200 and Y 500
 abbrev pub R : ℕ → List ℕ
 R functions = card-R (functions ∷ 0x00 ∷ 0xC8 ∷ 0x01 ∷ 0xF4 ∷ [])
+
+-- vmax to start of card A of document 01, with another limit row
+abbrev pub common-A : List ℕ → List ℕ
+common-A limit =
+    0xA0 ∷ 0x00 ∷ 0x64 ∷ 0x50 ∷ 0xA0 ∷ 0x78 ∷ 0x4B ∷ 0x14 ∷ 0xA0 ∷ 0x50 ∷ 0x4B ∷ 0x16 ∷ 0xA0 ∷ 0x64 ∷ 0x4B ∷ 0x16 ∷ 0xA0 ∷ 0x50 ∷ 0x4B ∷ 0x16
+    ∷ 0x50 ∷ 0x28 ∷ 0x14 ∷ 0x14 ∷ 0x9B ∷ 0x1E ∷ 0x14 ∷ 0x16 ∷ (limit ++ (0x64 ∷ 0x64 ∷ 0x00 ∷ 0x01 ∷ []))
+
+-- card C of the readings of document 02, with another speed for the pair 10-11; and CF, "C with row 6 `3C3C0001`", as version 3 and as version 2
+abbrev pub C : ℕ → List ℕ
+C speed = 0x00 ∷ 0x31 ∷ 0x03 ∷ (common-A (0xA0 ∷ 0x3C ∷ 0x4B ∷ 0x16 ∷ []) ++ (0x0F ∷ 0x00 ∷ 0x14 ∷ 0x00 ∷ 0x32 ∷ 0x1E ∷ speed ∷ 0x32 ∷ 0x46 ∷ 0x0A ∷ []))
+
+abbrev pub CF : List ℕ
+CF = 0x00 ∷ 0x31 ∷ 0x03 ∷ (common-A (0x3C ∷ 0x3C ∷ 0x00 ∷ 0x01 ∷ []) ++ (0x0F ∷ 0x00 ∷ 0x14 ∷ 0x00 ∷ 0x32 ∷ 0x1E ∷ 0x28 ∷ 0x32 ∷ 0x46 ∷ 0x0A ∷ []))
+
+abbrev pub CF-2 : List ℕ
+CF-2 = 0x00 ∷ 0x2C ∷ 0x02 ∷ (common-A (0x3C ∷ 0x3C ∷ 0x00 ∷ 0x01 ∷ []) ++ (0x0F ∷ 0x00 ∷ 0x14 ∷ 0x00 ∷ 0x32 ∷ []))
 
 -- with the reminder off; and the same with other silent bytes, and a whole reminder setting behind the record
 abbrev pub quiet-R : List ℕ
@@ -116,12 +136,16 @@ pub record HypothesesMet : Type 0 where
 
 -- ---- and it is not met by a constant desk only
 
+-- the card of an area's bytes
+abbrev pub cardOf : List ℕ → Card
+cardOf area = record { version = byte area 2; settings = settingsOf area }
+
 -- with either card a ride of train type 6 is answered alike by `before`, sample for sample, until a differing function speaks at the next
 -- sample, which is answered by p with one card and by q with the other
 pub record Parting (a b : List ℕ) (xs : List Sample) (before : List Outcome) (p q : Outcome) : Type 0 where
-  pub speaks-at : untilSpeaks (settingsOf a) (settingsOf b) 6 xs ≡ length before
-  pub answers-a : rideOf a 2 6 xs ≡ given (before ++ (p ∷ []))
-  pub answers-b : rideOf b 2 6 xs ≡ given (before ++ (q ∷ []))
+  pub speaks-at : untilSpeaks (cardOf a) (cardOf b) 6 xs ≡ length before
+  pub answers-a : rideOf a 3 6 xs ≡ given (before ++ (p ∷ []))
+  pub answers-b : rideOf b 3 6 xs ≡ given (before ++ (q ∷ []))
   pub part : p ≡ q → ⊥
 
 -- for each of the four functions: two accepted cards that differ in it, a ride, and the very sample at which it speaks and the answers part
@@ -139,3 +163,15 @@ pub record Partings : Type 0 where
   -- bit 3: beacon 10 in BTS
   pub bts-parts :
       Parting (R 0x0F) (R 0x07) (bts 0 0 0 ∷ bts 0 10 0 ∷ []) (shows 10000 0 0 ∷ []) (answer 10000 64 0 0 true) (shows 10000 0 0)
+  -- 02 g, bytes 44 to 48, "at the second": beacon 10, then 11 at half a metre, on cards whose pairs 10-11 give 40 and 50
+  pub pairs-part :
+      Parting (C 0x28) (C 0x32) (conv 50 10 0 ∷ conv 50 11 0 ∷ []) (answer 10000 64 0 0 true ∷ []) (answer 4000 64 0 0 true) (answer 5000 64 0 0 true)
+
+-- 02 g, version 3 beside version 2: it speaks at the first 10 or 11, where the answers are still alike (g12), and they part later: with row 6 at 60 km/h
+-- throughout, 50/10, 50/0/64, 50/0/256 is 6000 against 8000
+pub record VersionParts : Type 0 where
+  pub speaks-at : untilSpeaks (cardOf CF) (cardOf CF-2) 6 (conv 50 10 0 ∷ conv 50 0 64 ∷ conv 50 0 256 ∷ []) ≡ 0
+  pub answers-3 : rideOf CF 3 6 (conv 50 10 0 ∷ conv 50 0 64 ∷ conv 50 0 256 ∷ [])
+      ≡ given (answer 6000 64 0 0 true ∷ answer 6000 64 0 0 true ∷ answer 6000 64 0 0 true ∷ [])
+  pub answers-2 : rideOf CF-2 3 6 (conv 50 10 0 ∷ conv 50 0 64 ∷ conv 50 0 256 ∷ [])
+      ≡ given (answer 6000 64 0 0 true ∷ answer 6000 64 0 0 true ∷ answer 8000 64 0 0 true ∷ [])

@@ -4,7 +4,9 @@ use mathlib.Core.Bool.{Bool, false}
 use mathlib.Core.List.{List, [], _∷_, _++_}
 use Rattle.leaf.specs.Answers.{Answer, given, refused, refusedAt}
 use Rattle.card.specs.declared.Row.{Row}
+use Rattle.card.specs.declared.Card.{Card}
 use Rattle.card.specs.declared.Settings.{Settings}
+use Rattle.card.specs.Card.{noPairs}
 use Rattle.card.specs.CardA.{cardA}
 use Rattle.session.specs.declared.Sample.{Sample}
 use Rattle.session.specs.declared.Session.{Session}
@@ -67,7 +69,16 @@ cardA-with tick functions limit =
       functions = functions;
       x = 0;
       y = 0;
+      pairs = noPairs;
     }
+
+-- 02 g: "the opening now takes the version". Card A as it is read, version 1; and those with functions of their own, beside version 2, which has
+-- functions
+abbrev pub cardOfA : Card
+cardOfA = record { version = 1; settings = cardA }
+
+abbrev pub cardOfA-with : ℕ → ℕ → Row → Card
+cardOfA-with tick functions limit = record { version = 2; settings = cardA-with tick functions limit }
 
 -- bytes 3 to 38 of a vehicle of today and of one from before 2015, which differ in the before-stop row
 abbrev common-bytes : List ℕ → List ℕ

@@ -9,6 +9,7 @@ use Rattle.leaf.specs.Choosing.{pick}
 use Rattle.leaf.specs.Bytes.{byte}
 use Rattle.leaf.specs.Checks.{Check, FirstFault}
 use Rattle.leaf.specs.Answers.{Answer, given, refused, refusedAt, isGiven, refusalOf}
+use Rattle.card.specs.declared.Card.{Card}
 use Rattle.card.specs.declared.Settings.{Settings}
 use Rattle.card.specs.Ranges.{checksOf, faultOf}
 use Rattle.card.specs.Plain.{CardMet, WriteMet, ReadAs, WrittenAs}
@@ -41,12 +42,11 @@ use Rattle.demands.specs.Standing.{StoodFor, Counter, Counts}
 use Rattle.demands.specs.Quiet.{steppedBefore, Arisen, Raiser, Raises}
 use Rattle.step.specs.declared.speed.Standing.{Standing}
 use Rattle.step.specs.Speed.{none, limits}
-use Rattle.step.specs.Reason.{reasonNumber}
 use Rattle.session.specs.declared.Reasoned.{Reasoned}
 use Rattle.session.specs.declared.Told.{Told as Asking}
 use Rattle.session.specs.declared.Told.the-variants as asked
 use Rattle.session.specs.Why.{whyFrom, askedOf}
-use Rattle.step_laws.specs.Reason.{Limits}
+use Rattle.step_laws.specs.Reason.{reasonPlace, Limits}
 use Rattle.laws.specs.Unanswered.{topOf}
 use Rattle.demands.specs.Why.{Asker, AsksExactly}
 use Rattle.demands.specs.Replay.{Replayer, ReplayedAs, ReplaysExactly, TwoQuotas, WholeRide}
@@ -66,7 +66,7 @@ verdict (Refused why) = refusalOf why
 
 -- it refuses exactly as document 01 says
 abbrev pub RefusesAlike : Logic → Type 0
-RefusesAlike f = (s : Settings) (train : ℕ) (xs : List Sample) → mapped (map verdict) (f s train xs) ≡ mapped (map verdict) (document01 s train xs)
+RefusesAlike f = (card : Card) (train : ℕ) (xs : List Sample) → mapped (map verdict) (f card train xs) ≡ mapped (map verdict) (document01 card train xs)
 
 -- one that refuses exactly as document 01 says, and answers 8000 to every accepted sample
 abbrev pub at8000 : Outcome → Outcome
@@ -74,7 +74,7 @@ at8000 (Answered a) = Answered (record { speed = 8000; lamps = a .lamps; cause =
 at8000 (Refused why) = Refused why
 
 abbrev pub eightThousand : Logic
-eightThousand s train xs = mapped (map at8000) (document01 s train xs)
+eightThousand card train xs = mapped (map at8000) (document01 card train xs)
 
 -- one that refuses exactly as document 01 says, and gives every later accepted sample the first answer
 abbrev pub again : Told → List Outcome → List Outcome
@@ -88,7 +88,7 @@ firstAgain (Answered a ∷ rest) = Answered a ∷ again a rest
 firstAgain (Refused why ∷ rest) = Refused why ∷ firstAgain rest
 
 abbrev pub repeater : Logic
-repeater s train xs = mapped firstAgain (document01 s train xs)
+repeater card train xs = mapped firstAgain (document01 card train xs)
 
 -- They are of the kinds that are shut out, and so are not document 01's.
 pub record LogicsOut : Type 0 where
@@ -184,16 +184,16 @@ pub record CardsOut : Type 0 where
 -- ---- rides
 
 abbrev pub Rider : Type 0
-Rider = Settings → List ℕ → Answer (List (Answer Told))
+Rider = Card → List ℕ → Answer (List (Answer Told))
 
 -- A statement of a ride: a bad recording is 14, and what opening refuses is refused.
 pub record Starts (ride : Rider) : Type 0 where
-  pub bad : (s : Settings) (recording : List ℕ) → ((n : ℕ) → RecordingMet recording n → ⊥) → ride s recording ≡ refused 14
-  pub unopened : (s : Settings) (recording : List ℕ) (n m : ℕ) → RecordingMet recording n → openSession s (trainOf recording) ≡ refused m → ride s recording ≡ refused m
+  pub bad : (card : Card) (recording : List ℕ) → ((n : ℕ) → RecordingMet recording n → ⊥) → ride card recording ≡ refused 14
+  pub unopened : (card : Card) (recording : List ℕ) (n m : ℕ) → RecordingMet recording n → openSession card (trainOf recording) ≡ refused m → ride card recording ≡ refused m
 
 -- one that goes on after a sample that is refused
 abbrev pub goesOn : Rider
-goesOn s recording = mapped (λ u. map outcomeOf (outcomes u (samplesOf recording))) (startRide s recording)
+goesOn card recording = mapped (λ u. map outcomeOf (outcomes u (samplesOf recording))) (startRide card recording)
 
 -- one of which a refused sample leaves nothing but its refusal
 abbrev pub allGiven : List (Answer Told) → Bool
@@ -205,11 +205,11 @@ wiped [] = []
 wiped (a ∷ rest) = pick (isGiven a && not (allGiven rest)) (wiped rest) (a ∷ rest)
 
 abbrev pub wipes : Rider
-wipes s recording = mapped (λ u. wiped (shownBy (freshRide u) (samplesOf recording))) (startRide s recording)
+wipes card recording = mapped (λ u. wiped (shownBy (freshRide u) (samplesOf recording))) (startRide card recording)
 
 -- what demand 1 says of ours, of any ride
 abbrev pub RidesExactly : Rider → Type 0
-RidesExactly ride = (s : Settings) (recording : List ℕ) → Exactly (ride s recording) (RiddenAs s recording)
+RidesExactly ride = (card : Card) (recording : List ℕ) → Exactly (ride card recording) (RiddenAs card recording)
 
 pub record RidesOut : Type 0 where
   pub on-passes : Starts goesOn
@@ -219,35 +219,35 @@ pub record RidesOut : Type 0 where
 
 -- ---- lines
 
--- what receives: settings and the bytes that have come make what has been shown; and the announced end adds something
+-- what receives: a card and the bytes that have come make what has been shown; and the announced end adds something
 pub record Receives : Type 0 where
-  pub shown : Settings → List ℕ → List (Answer Told)
-  pub at-end : Settings → List ℕ → List (Answer Told)
+  pub shown : Card → List ℕ → List (Answer Told)
+  pub at-end : Card → List ℕ → List (Answer Told)
 
 -- A statement of a line: a good recording and then the end show what the whole ride shows.
 abbrev pub ShowsWhole : Receives → Type 0
-ShowsWhole f = (s : Settings) (recording : List ℕ) → goodRecording recording ≡ true → f .shown s recording ++ f .at-end s recording ≡ asShown (wholeRide s recording)
+ShowsWhole f = (card : Card) (recording : List ℕ) → goodRecording recording ≡ true → f .shown card recording ++ f .at-end card recording ≡ asShown (wholeRide card recording)
 
 -- What is said of ours, of any: after a beginning with k complete samples exactly their answers are out;
 abbrev pub ShowsAtOnce : Receives → Type 0
-ShowsAtOnce f = (s : Settings) (bytes : List ℕ) (k j : ℕ) (u : Session) → length bytes ≡ 6 + 6 * k + j → j < 6 → Going s bytes
-    → openSession s (trainOf bytes) ≡ given u → f .shown s bytes ≡ map outcomeOf (outcomes u (firstSamples bytes k))
+ShowsAtOnce f = (card : Card) (bytes : List ℕ) (k j : ℕ) (u : Session) → length bytes ≡ 6 + 6 * k + j → j < 6 → Going card bytes
+    → openSession card (trainOf bytes) ≡ given u → f .shown card bytes ≡ map outcomeOf (outcomes u (firstSamples bytes k))
 
 -- and 9 is shown as soon as every completion of a sample is refused 9.
 abbrev pub RefusesAtOnce : Receives → Type 0
-RefusesAtOnce f = (s : Settings) (before part : List ℕ) → Due s before → length part ≤ 5 → AllBytes part
-    → PartAs (afterBytes s before .session) part (status.Refused 9) → f .shown s (before ++ part) ≡ f .shown s before ++ refused 9 ∷ []
+RefusesAtOnce f = (card : Card) (before part : List ℕ) → Due card before → length part ≤ 5 → AllBytes part
+    → PartAs (afterBytes card before .session) part (status.Refused 9) → f .shown card (before ++ part) ≡ f .shown card before ++ refused 9 ∷ []
 
 abbrev pub ours : Receives
-ours = record { shown = shownBytes; at-end = λ s bytes. shownOf (endOf (afterBytes s bytes) .shown) }
+ours = record { shown = shownBytes; at-end = λ card bytes. shownOf (endOf (afterBytes card bytes) .shown) }
 
 -- one that collects everything and runs it at the end
 abbrev pub collects : Receives
-collects = record { shown = λ s bytes. []; at-end = λ s bytes. asShown (wholeRide s bytes) }
+collects = record { shown = λ card bytes. []; at-end = λ card bytes. asShown (wholeRide card bytes) }
 
 -- one that looks at a sample when its sixth byte is in
 abbrev pub waits : Receives
-waits = record { shown = λ s bytes. shownBytes s (take (placeOf (samplesIn bytes)) bytes); at-end = ours .at-end }
+waits = record { shown = λ card bytes. shownBytes card (take (placeOf (samplesIn bytes)) bytes); at-end = ours .at-end }
 
 pub record LinesOut : Type 0 where
   pub ours-passes : ShowsWhole ours × ShowsAtOnce ours × RefusesAtOnce ours
@@ -260,7 +260,7 @@ pub record LinesOut : Type 0 where
 
 -- A statement of samples that are all accepted.
 abbrev pub CountsAccepted : Counter → Type 0
-CountsAccepted f = (settings : Settings) (train : ℕ) (s : Session) (xs : List Sample) (n : ℕ) → openSession settings train ≡ given s
+CountsAccepted f = (card : Card) (train : ℕ) (s : Session) (xs : List Sample) (n : ℕ) → openSession card train ≡ given s
     → allAccepted s xs ≡ true → StoodFor xs n → f s xs ≡ min 30000 n
 
 -- one that heeds refused samples as if they were accepted
@@ -322,7 +322,7 @@ pub record ReplaysOut : Type 0 where
 -- A statement of the named limit alone: it stands, and has the answer's S and the age that is told.
 abbrev pub NamesStanding : Asker → Type 0
 NamesStanding ask = (s : Session) (x : Sample) (r : Reasoned) → ask s x .told ≡ asked.Reasoned r → (let t = ask s x .session in
-    Limits (t .settings) (topOf t) (t .desk) (reasonNumber (r .why .reason)) (r .answer .speed) (r .why .age))
+    Limits (t .card .settings) (topOf t) (t .desk) (reasonPlace (r .why .reason)) (r .answer .speed) (r .why .age))
 
 -- the last of a list that stands and has this speed
 abbrev pub lastAt : ℕ → List Standing → Standing
@@ -331,7 +331,7 @@ lastAt speed (l ∷ rest) = pick (lastAt speed rest .stands) (lastAt speed rest)
 
 abbrev pub lastNamed : Session → Asking → Asking
 lastNamed t (asked.Reasoned r) =
-    asked.Reasoned (record { answer = r .answer; why = whyFrom (lastAt (r .answer .speed) (limits (t .settings) (topOf t) (t .desk))) (t .desk .brake) })
+    asked.Reasoned (record { answer = r .answer; why = whyFrom (lastAt (r .answer .speed) (limits (t .card .settings) (topOf t) (t .desk))) (t .desk .brake) })
 lastNamed t (asked.Refused why) = asked.Refused why
 
 -- one that names the last of equal ones

@@ -1,9 +1,12 @@
 pub mod Runs
+pub mod Opening
 pub mod Demand1
 pub mod Demand2
 pub mod Speaks
+pub mod Unpaired
 pub mod Examples
 pub mod Demand3
+pub mod Pairs
 pub mod Pieces
 pub mod Standing
 pub mod Quiet

@@ -21,7 +21,6 @@ use Rattle.tone.specs.declared.Reading.{Reading}
 use Rattle.tone.specs.declared.Reading.the-variants.{Permanent, Nothing}
 use Rattle.tone.specs.Tones.{classifyOf, codeOf}
 use Rattle.card.specs.Card.{readsInBts}
-use Rattle.card.specs.CardA.{cardA}
 use Rattle.desk.specs.declared.brake.Brake.{Brake}
 use Rattle.desk.specs.Brake.{standstill}
 use Rattle.desk.specs.State.{withBrake, withCode}
@@ -42,7 +41,7 @@ use Rattle.laws.specs.Refusals.{Accepted}
 use Rattle.laws.specs.Unanswered.{topOf}
 use Rattle.demands.specs.Demand1.{refusalBy}
 use Rattle.demands.specs.Runs.{runFrom, rideOf}
-use Rattle.demands.specs.Examples.{conv, bts, times, shows, repeated, card-R}
+use Rattle.demands.specs.Examples.{conv, bts, times, shows, repeated, cardOfA, card-R}
 
 -- ---- the desk before this request: codes 0..11, causes 0..5, no alarm (step_laws' specs/Quiet.antt has the step)
 
@@ -54,7 +53,7 @@ abbrev pub checksBefore : Session → Sample → List Check
 checksBefore s x =
     (8, insideBefore s)
     ∷ (9, leb (x .beacon) 11 && leb (x .buttons) buttonsTop && leb 1 (x .mode) && leb (x .mode) 2)
-    ∷ (10, leb (x .pulses * s .settings .tick) 100000)
+    ∷ (10, leb (x .pulses * s .card .settings .tick) 100000)
     ∷ (11, sameMode (s .desk .bts) (inBts (x .mode)) || standstill (x .pulses) (s .desk .brake))
     ∷ []
 
@@ -62,7 +61,7 @@ unfoldable pub refusedBefore : Session → Sample → ℕ
 refusedBefore s x = firstBad 0 (checksBefore s x)
 
 abbrev pub steppedBefore : Session → Sample → Stepped
-steppedBefore s x = stepBefore (s .settings) (topOf s) (carried s x) (s .desk)
+steppedBefore s x = stepBefore (s .card) (topOf s) (carried s x) (s .desk)
 
 unfoldable pub sampleBefore : Session → Sample → Sampled
 sampleBefore s x =
@@ -100,12 +99,12 @@ pub record Alarm (s : Session) (x : Sample) (a : Told) : Type 0 where
   -- "Each sample with code 12 lights lamp bit 11, the alarm,": exactly these, in both modes (c3)
   pub lamp-11 : (bitOf (a .lamps) 2048 ≡ true) ↔ (x .beacon ≡ 12)
   -- "Code 12 is no beacon": it is never read;
-  pub unread : x .beacon ≡ 12 → reads (s .settings) (carried s x) (s .desk) ≡ false
+  pub unread : x .beacon ≡ 12 → reads (s .card) (carried s x) (s .desk) ≡ false
   -- "12 becomes the last code in either mode" (c5), as every code does,
   pub remembered : sampleOf s x .session .desk .code ≡ x .beacon
   -- "yet the code after it counts as changed": a beacon is read, in BTS exactly where function 3 reads it
   pub read-after : s .desk .code ≡ 12 → 1 ≤ x .beacon → x .beacon ≤ 11
-      → (reads (s .settings) (carried s x) (s .desk) ≡ true) ↔ ((x .mode ≡ 1) ⊎ ((isSide (x .beacon) ≡ true) × (readsInBts (s .settings .functions) ≡ true)))
+      → (reads (s .card) (carried s x) (s .desk) ≡ true) ↔ ((x .mode ≡ 1) ⊎ ((isSide (x .beacon) ≡ true) × (readsInBts (s .card .settings .functions) ≡ true)))
 
 -- ---- a session with another last code, or another cause
 
@@ -168,7 +167,7 @@ pub record Quiet : Type 0 where
 -- ---- both sides of each line, on card A (tick length 100, BTS speed 80) and card R, train type 6
 
 abbrev pub ride : List Sample → Answer (List Outcome)
-ride xs = runFrom (openSession cardA 6) xs
+ride xs = runFrom (openSession cardOfA 6) xs
 
 -- card R has all four functions, X 200 m and Y 500 m
 abbrev pub rideR : List Sample → Answer (List Outcome)

@@ -14,8 +14,7 @@ use mathlib.Core.Logic.{_⊎_, _↔_}
 use mathlib.Core.Path.{_≡_}
 use Rattle.leaf.specs.Choosing.{pick}
 use Rattle.leaf.specs.Answers.{Answer, given, refused, refusedAt}
-use Rattle.card.specs.declared.Settings.{Settings}
-use Rattle.card.specs.CardA.{cardA}
+use Rattle.card.specs.declared.Card.{Card}
 use Rattle.sides.specs.declared.limit.Limit.{Limit}
 use Rattle.desk.specs.State.{withLimit}
 use Rattle.step.specs.declared.Answer.{Answer as Told}
@@ -34,7 +33,7 @@ use Rattle.rides.specs.declared.replay.End.the-variants as end
 use Rattle.rides.specs.declared.replay.Replayed.{Replayed}
 use Rattle.laws.specs.Ranges.{Inside}
 use Rattle.demands.specs.Demand1.{Exactly, SampledAs, refusalBy}
-use Rattle.demands.specs.Examples.{conv}
+use Rattle.demands.specs.Examples.{conv, cardOfA}
 
 -- ---- samples accepted in turn
 
@@ -141,8 +140,8 @@ asShown place s shown = record { session = s; last = lastIn last.None shown; ran
 
 -- "A whole quota from place 0 on the opened session is the ride": every answer of it is counted, the last one given, and what ended it, ended it
 abbrev pub WholeRide : Replayer → Type 0
-WholeRide replay = (settings : Settings) (recording : List ℕ) (n : ℕ) (s : Session) (quota : ℕ) (shown : List (Answer Told))
-    → RecordingMet recording n → openSession settings (trainOf recording) ≡ given s → n ≤ quota → wholeRide settings recording ≡ given shown
+WholeRide replay = (card : Card) (recording : List ℕ) (n : ℕ) (s : Session) (quota : ℕ) (shown : List (Answer Told))
+    → RecordingMet recording n → openSession card (trainOf recording) ≡ given s → n ≤ quota → wholeRide card recording ≡ given shown
     → replay recording 0 s quota ≡ asShown 0 (runOf (freshRide s) (samplesOf recording) .session) shown
 
 -- ---- what is looked at
@@ -211,10 +210,10 @@ three = threeWith 6 7
 
 -- the session that card A opens for train type 6; and the same with 9 steps, out of range
 abbrev pub opened : Session
-opened = freshSession cardA 6
+opened = freshSession cardOfA 6
 
 abbrev nineStepped : Limit
-nineStepped = record { on = false; age = 0; steps = 9 }
+nineStepped = record { on = false; age = 0; steps = 9; answered = false }
 
 abbrev pub nineSteps : Session
 nineSteps = withDesk (withLimit nineStepped (opened .desk)) opened

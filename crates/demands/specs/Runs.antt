@@ -4,8 +4,8 @@ use Prim.Native.Nat.{ℕ}
 use mathlib.Core.List.{List}
 use lib.ListN.{take}
 use Rattle.leaf.specs.Answers.{Answer, given, refused, refusedAt}
-use Rattle.card.specs.declared.Settings.{Settings}
-use Rattle.card.specs.Reading.{readCard}
+use Rattle.card.specs.declared.Card.{Card}
+use Rattle.card.specs.Reading.{cardIn}
 use Rattle.session.specs.declared.Sample.{Sample}
 use Rattle.session.specs.declared.Session.{Session}
 use Rattle.session.specs.declared.Outcome.{Outcome}
@@ -18,16 +18,16 @@ runFrom (given s) xs = given (outcomes s xs)
 runFrom (refused n) xs = refused n
 runFrom (refusedAt n place) xs = refusedAt n place
 
--- settings that were read, or not, are opened for a train type and run
-abbrev pub rideFrom : Answer Settings → ℕ → List Sample → Answer (List Outcome)
-rideFrom (given s) train xs = runFrom (openSession s train) xs
+-- a card that was read, or not, is opened for a train type and run
+abbrev pub rideFrom : Answer Card → ℕ → List Sample → Answer (List Outcome)
+rideFrom (given card) train xs = runFrom (openSession card train) xs
 rideFrom (refused n) train xs = refused n
 rideFrom (refusedAt n place) train xs = refusedAt n place
 
 -- everything a desk answers: a reader told to know the versions up to `highest` reads the card, a session is opened for the train type, and
 -- the samples are run; a refusal of the card or of the opening is all there is
 abbrev pub rideOf : List ℕ → ℕ → ℕ → List Sample → Answer (List Outcome)
-rideOf area highest train xs = rideFrom (readCard area highest) train xs
+rideOf area highest train xs = rideFrom (cardIn area highest) train xs
 
 -- the first n of the outcomes
 abbrev pub firstOf : ℕ → Answer (List Outcome) → Answer (List Outcome)

@@ -9,10 +9,11 @@ use lib.ListN.{length}
 use lib.Ieee.{Float}
 use Rattle.leaf.specs.Bytes.{byte}
 use Rattle.leaf.specs.Answers.{Answer, given, refusedAt, isGiven}
+use Rattle.card.specs.declared.Card.{Card}
 use Rattle.card.specs.declared.Settings.{Settings}
 use Rattle.card.specs.Card.{baseKind}
 use Rattle.card.specs.Plain.{FirstOut}
-use Rattle.card.specs.Reading.{settingsOf, readCard}
+use Rattle.card.specs.Reading.{settingsOf, readCard, cardIn}
 use Rattle.card.specs.Writing.{writeCard}
 use Rattle.tone.specs.Facts as sheet
 use Rattle.tone.specs.Tones.{readSheet, classifyOf}
@@ -22,26 +23,27 @@ use Rattle.session.specs.declared.Session.{Session}
 use Rattle.session.specs.declared.Sampled.{Sampled}
 use Rattle.session.specs.declared.Outcome.{Outcome}
 use Rattle.session.specs.declared.Outcome.the-variants.{Answered, Refused}
-use Rattle.session.specs.Session.{openingVersion, openSession, sampleOf}
+use Rattle.session.specs.Session.{openSession, sampleOf}
 use Rattle.text.specs.Decimal.{line}
 use Rattle.rides.specs.Ride.{startRide}
 use Rattle.printed.specs.declared.Columns.{Columns}
 use Rattle.printed.specs.Printed.{columnsOf, highest, printedRide, rideOn}
 use Rattle.demands.specs.Demand3.{firstLines}
+use Rattle.demands.specs.Opening.{SomeOpening, NotInventedOpening}
 use Rattle.demands.specs.Runs.{runFrom}
 
 -- ---- a logic
 
 -- whatever it remembers: what it answers to a list of samples, one after the other, from its opening on
 abbrev pub Logic : Type 0
-Logic = Settings → ℕ → List Sample → Answer (List Outcome)
+Logic = Card → ℕ → List Sample → Answer (List Outcome)
 
 -- document 01's: a session is opened, and the samples are run
 abbrev pub document01 : Logic
-document01 s train xs = runFrom (openSession s train) xs
+document01 card train xs = runFrom (openSession card train) xs
 
 abbrev pub Equals : Logic → Type 0
-Equals f = (s : Settings) (train : ℕ) (xs : List Sample) → f s train xs ≡ document01 s train xs
+Equals f = (card : Card) (train : ℕ) (xs : List Sample) → f card train xs ≡ document01 card train xs
 
 -- the answers to accepted samples among its outcomes
 abbrev pub answersIn : List Outcome → List Told
@@ -58,12 +60,12 @@ All a (b ∷ rest) = (b ≡ a) × All a rest
 
 -- "refuses everything": the opening, or each sample
 abbrev pub RefusesAll : Logic → Type 0
-RefusesAll f = (s : Settings) (train : ℕ) (xs : List Sample) (os : List Outcome) → f s train xs ≡ given os → answersIn os ≡ []
+RefusesAll f = (card : Card) (train : ℕ) (xs : List Sample) (os : List Outcome) → f card train xs ≡ given os → answersIn os ≡ []
 
 -- "answers one speed for ever": one for each opening, whatever samples are accepted
 abbrev pub OneSpeed : Logic → Type 0
-OneSpeed f = (s : Settings) (train : ℕ)
-    → (speed : ℕ) × ((xs : List Sample) (os : List Outcome) → f s train xs ≡ given os → All speed (map (λ a. a .speed) (answersIn os)))
+OneSpeed f = (card : Card) (train : ℕ)
+    → (speed : ℕ) × ((xs : List Sample) (os : List Outcome) → f card train xs ≡ given os → All speed (map (λ a. a .speed) (answersIn os)))
 
 -- "obeys the first sample and then repeats itself": every answer to a later accepted sample is the first one
 abbrev pub Repeated : List Told → Type 0
@@ -71,12 +73,12 @@ Repeated [] = Unit
 Repeated (a ∷ rest) = All a rest
 
 abbrev pub Repeats : Logic → Type 0
-Repeats f = (s : Settings) (train : ℕ) (xs : List Sample) (os : List Outcome) → f s train xs ≡ given os → Repeated (answersIn os)
+Repeats f = (card : Card) (train : ℕ) (xs : List Sample) (os : List Outcome) → f card train xs ≡ given os → Repeated (answersIn os)
 
 -- a sample that is accepted is answered the same after any others: the logic forgets
 abbrev pub Forgets : Logic → Type 0
-Forgets f = (s : Settings) (train : ℕ) (x : Sample) (xs ys : List Sample) (os ps : List Outcome) (a b : Told)
-    → f s train (xs ++ x ∷ []) ≡ given (os ++ Answered a ∷ []) → f s train (ys ++ x ∷ []) ≡ given (ps ++ Answered b ∷ []) → a ≡ b
+Forgets f = (card : Card) (train : ℕ) (x : Sample) (xs ys : List Sample) (os ps : List Outcome) (a b : Told)
+    → f card train (xs ++ x ∷ []) ≡ given (os ++ Answered a ∷ []) → f card train (ys ++ x ∷ []) ≡ given (ps ++ Answered b ∷ []) → a ≡ b
 
 -- "returns the session untouched": a logic of one sample, where it answers
 abbrev pub Untouched : (Session → Sample → Sampled) → Type 0
@@ -90,22 +92,22 @@ pub record ShutOut : Type 0 where
   pub not-untouched : (f : Session → Sample → Sampled) → ((s : Session) (x : Sample) → f s x ≡ sampleOf s x) → Untouched f → ⊥
   pub not-repeated : (f : Logic) → Equals f → Repeats f → ⊥
   pub not-forgetful : (f : Logic) → Equals f → Forgets f → ⊥
-  -- "refuses everything", of reader, writer, sheet, classifier, opening and recording too
+  -- "refuses everything", of reader, writer, sheet, classifier, opening (Opening.antt) and recording too
   pub some-card : ((area : List ℕ) (highest : ℕ) → isGiven (readCard area highest) ≡ false) → ⊥
   pub some-write : ((version : ℕ) (s : Settings) (room : ℕ) → isGiven (writeCard version s room) ≡ false) → ⊥
   pub some-sheet : ((area : List ℕ) → isGiven (readSheet area) ≡ false) → ⊥
   pub some-tone : ((area : List ℕ) (tone : Float) → isGiven (classifyOf area tone) ≡ false) → ⊥
-  pub some-opening : ((s : Settings) (train : ℕ) → isGiven (openSession s train) ≡ false) → ⊥
-  pub some-recording : ((s : Settings) (recording : List ℕ) → isGiven (startRide s recording) ≡ false) → ⊥
+  pub some-opening : SomeOpening
+  pub some-recording : ((card : Card) (recording : List ℕ) → isGiven (startRide card recording) ≡ false) → ⊥
   -- "an invented place": a place given by the reader, the writer, opening or the sheet is that of the first fault there is
   pub not-invented-read : (area : List ℕ) (highest n at : ℕ) → readCard area highest ≡ refusedAt n at
       → (n ≡ 5) × FirstOut baseKind (byte area 2) (settingsOf area) at
   pub not-invented-write : (version : ℕ) (s : Settings) (room n at : ℕ) → writeCard version s room ≡ refusedAt n at → (n ≡ 5) × FirstOut baseKind version s at
-  pub not-invented-opening : (s : Settings) (train n at : ℕ) → openSession s train ≡ refusedAt n at → (n ≡ 5) × FirstOut baseKind openingVersion s at
+  pub not-invented-opening : NotInventedOpening
   pub not-invented-sheet : (area : List ℕ) (n place : ℕ) → readSheet area ≡ refusedAt n place → (n ≡ 12) × sheet.FirstFault area place
   -- "an invented .. printed sample number": where the ride on a card answers a to its k-th sample, the line below the first k, the heading
   -- among them, is that answer's, numbered k
   pub not-invented-number : (columns : Columns) (card recording : List ℕ) (before rest : List (Answer Told)) (a : Told)
-      → rideOn (readCard card highest) recording ≡ given (before ++ given a ∷ rest)
+      → rideOn (cardIn card highest) recording ≡ given (before ++ given a ∷ rest)
       → (let k = suc (length before) in
       firstLines (printedRide columns card recording) (suc k) ≡ firstLines (printedRide columns card recording) k ++ line k (columnsOf columns a))

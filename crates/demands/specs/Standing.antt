@@ -15,8 +15,7 @@ use Rattle.leaf.specs.Answers.{Answer, given}
 use Rattle.leaf.specs.Numbers.{bitOf}
 use Rattle.leaf.specs.Buttons.{rearmButton}
 use Rattle.leaf.specs.declared.Refusal.the-variants.{Number}
-use Rattle.card.specs.declared.Settings.{Settings}
-use Rattle.card.specs.CardA.{cardA}
+use Rattle.card.specs.declared.Card.{Card}
 use Rattle.desk.specs.declared.brake.Brake.{Brake}
 use Rattle.desk.specs.State.{withBrake}
 use Rattle.step.specs.declared.Answer.{Answer as Told}
@@ -31,7 +30,7 @@ use Rattle.laws.specs.Ranges.{Inside}
 use Rattle.laws.specs.Refusals.{CodesMet, modeOf, Accepted}
 use Rattle.demands.specs.Demand1.{refusalBy}
 use Rattle.demands.specs.Runs.{runFrom}
-use Rattle.demands.specs.Examples.{conv, bts, times, shows, repeated}
+use Rattle.demands.specs.Examples.{conv, bts, times, shows, repeated, cardOfA}
 
 -- ---- the count, from the samples
 
@@ -68,7 +67,7 @@ Counter = Session → List Sample → ℕ
 -- it gives the lesser of 30,000 and the number of accepted samples running without pulses, over any list of samples from opening, accepted or
 -- refused
 abbrev pub Counts : Counter → Type 0
-Counts f = (settings : Settings) (train : ℕ) (s : Session) (xs : List Sample) (n : ℕ) → openSession settings train ≡ given s
+Counts f = (card : Card) (train : ℕ) (s : Session) (xs : List Sample) (n : ℕ) → openSession card train ≡ given s
     → StoodFor (acceptedOf s xs) n → f s xs ≡ min 30000 n
 
 -- ---- standstill, rearm, lamp
@@ -91,7 +90,7 @@ Pressed x = bitOf (x .buttons) rearmButton ≡ true
 pub record StandstillLaws (s : Session) (x : Sample) : Type 0 where
   -- "Refusals: 11 now reads "while not at standstill"": 8 to 10 are not due, the mode changes, and it is not standstill
   pub refused-11 : (sampleOf s x ≡ refusalBy 11 s)
-      ↔ (Inside s × (CodesMet x × ((x .pulses * s .settings .tick ≤ 100000) × ((x .mode ≡ modeOf s → ⊥) × (Still s x → ⊥)))))
+      ↔ (Inside s × (CodesMet x × ((x .pulses * s .card .settings .tick ≤ 100000) × ((x .mode ≡ modeOf s → ⊥) × (Still s x → ⊥)))))
   -- a rearm takes effect, which is to say that the brake goes off: on before, standstill, the press, no cause
   pub rearmed : Accepted s x → (Braked s × (sampleOf s x .session .desk .brake .cause ≡ 0)) ↔ (Braked s × (Still s x × (Pressed x × NoCause s x)))
   -- lamp 10 of the answer: braked after the sample, "also with a fresh cause" (b7), and standstill
@@ -124,14 +123,14 @@ pub record Standing : Type 0 where
   pub nothing-else : (s : Session) (n : ℕ) (x : Sample) (a b : Told) → sampleOf s x .outcome ≡ Answered a → sampleOf (withCount n s) x .outcome ≡ Answered b
       → AlikeBut10 s (withCount n s) x a b
   -- 3. "every session we make is inside", the count included; one that is handed in with more is refused.
-  pub count-inside : (settings : Settings) (train : ℕ) (s : Session) (xs : List Sample) → openSession settings train ≡ given s
+  pub count-inside : (card : Card) (train : ℕ) (s : Session) (xs : List Sample) → openSession card train ≡ given s
       → countOf (after s xs) ≤ 30000
   pub count-outside : (s : Session) (x : Sample) → 30000 < countOf s → sampleOf s x ≡ refusalBy 8 s
 
 -- ---- both sides of each line, on card A (tick length 100, BTS speed 80), train type 6
 
 abbrev pub ride : List Sample → Answer (List Outcome)
-ride xs = runFrom (openSession cardA 6) xs
+ride xs = runFrom (openSession cardOfA 6) xs
 
 abbrev pub by : ℕ → Outcome
 by n = Refused (Number n)
