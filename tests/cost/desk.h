@@ -17,6 +17,7 @@ struct settings {
     struct row rows[8];
     uint8_t functions;
     uint16_t x, y;
+    uint8_t pairs[4], distance; // speeds of 10-10, 10-11, 11-10, 11-11 in km/h; pair distance in metres
 };
 
 enum kind { CLEAR, START, CONDITIONAL_CLEAR, ANNOUNCEMENT, PREANNOUNCEMENT, CAUTION, BEFORE_STOP, STOP, ZONE };
@@ -67,9 +68,20 @@ struct option {
 };
 
 struct limit {
-    bool on;
+    bool on, answered; // answered: last set by an answer to a 1 or a 9
     uint8_t steps;
     uint16_t age;
+};
+
+struct paired {
+    uint8_t on; // a bit for each of 30, 40, 50, 70 km/h
+    uint16_t age[4];
+};
+
+struct first {
+    uint8_t code; // 10 or 11, 0 where no first stands
+    bool own;     // no single limit stood as it was read
+    uint32_t distance;
 };
 
 struct desk {
@@ -85,11 +97,13 @@ struct desk {
     struct crossing crossing;
     struct option option;
     struct limit limit;
+    struct paired paired;
+    struct first first;
 };
 
 struct session {
     struct settings settings;
-    uint8_t train;
+    uint8_t version, train;
     struct desk desk;
 };
 
@@ -100,11 +114,11 @@ struct answer {
     bool limit;
 };
 
-// The place of the first setting out of range, 0 where there is none.
-uint8_t settings_fault(const struct settings *s);
+// The place of the first setting out of range beside this version of 1..3, 0 where there is none.
+uint8_t settings_fault(uint8_t version, const struct settings *s);
 
 // The refusal of an opening, 0 where there is none.
-uint8_t session_open(struct session *s, const struct settings *settings, uint8_t train);
+uint8_t session_open(struct session *s, uint8_t version, const struct settings *settings, uint8_t train);
 
 // One sample: the number that refuses it, and then nothing is changed; or 0.
 uint8_t session_sample(struct session *s, uint16_t pulses, uint8_t beacon, uint16_t buttons, uint8_t mode, struct answer *answer);

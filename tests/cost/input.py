@@ -44,7 +44,7 @@ def main(words):
         card = open(words[1], "rb").read()
         ride = open(words[2], "rb").read()
         body = ride[6 : 6 + 6 * int(words[4])]
-        out = card.ljust(44, b"\0") + int(words[3]).to_bytes(2, "big") + recording(ride[5], body)
+        out = card[:49].ljust(49, b"\0") + int(words[3]).to_bytes(2, "big") + recording(ride[5], body)
         sys.stdout.buffer.write(out)
 
 

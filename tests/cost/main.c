@@ -9,8 +9,8 @@ static uint16_t word(const uint8_t *p) { return (uint16_t)(p[0] << 8 | p[1]); }
 static uint8_t read_card(const uint8_t *p, struct settings *s) {
     uint8_t version = p[2];
     if (version == 0) return 2;
-    if (version > 2) return 3;
-    if (word(p) != (version == 1 ? 39 : 44)) return 4;
+    if (version > 3) return 3;
+    if (word(p) != (version == 1 ? 39 : version == 2 ? 44 : 49)) return 4;
     s->vmax = p[3];
     s->tick = word(p + 4);
     s->bts = p[6];
@@ -19,7 +19,9 @@ static uint8_t read_card(const uint8_t *p, struct settings *s) {
     bool reminder = s->functions & 4;
     s->x = reminder ? word(p + 40) : 0;
     s->y = reminder ? word(p + 42) : 0;
-    return settings_fault(s) ? 5 : 0;
+    for (int i = 0; i < 4; i++) s->pairs[i] = version == 3 ? p[44 + i] : 0;
+    s->distance = version == 3 ? p[48] : 0;
+    return settings_fault(version, s) ? 5 : 0;
 }
 
 int main(void) {
@@ -28,16 +30,16 @@ int main(void) {
     uint32_t speeds = 0, rest = 0;
     fread(input, 1, sizeof input, stdin);
     uint8_t number = read_card(input, &settings);
-    if (!number) number = session_open(&opened, &settings, input[51]);
+    if (!number) number = session_open(&opened, input[2], &settings, input[56]);
     if (number) {
         printf("refused %d\n", number);
         return 0;
     }
-    uint32_t length = (uint32_t)word(input + 46) << 16 | word(input + 48);
+    uint32_t length = (uint32_t)word(input + 51) << 16 | word(input + 53);
     uint16_t samples = (uint16_t)(length < 6 ? 0 : (length - 6) / 6), place = 0;
     session = opened;
-    for (uint32_t left = samples * (uint32_t)word(input + 44); left; left--) {
-        const uint8_t *p = input + 52 + 6 * place;
+    for (uint32_t left = samples * (uint32_t)word(input + 49); left; left--) {
+        const uint8_t *p = input + 57 + 6 * place;
         struct answer a;
         number = session_sample(&session, word(p), p[2], word(p + 3), p[5], &a);
         if (number) {

@@ -1,13 +1,14 @@
 // The logic of the crates card, curve, signals, sides, desk, buttons, beacons, step and session, step by step, in C.
-// Every range is checked at each sample, as document 01 says; with SETTINGS_AT_OPENING those of the settings at the opening alone.
-#include "desk.h"
-
-static uint32_t least(uint32_t a, uint32_t b) { return a < b ? a : b; }
-static bool below(uint32_t m, uint32_t h) { return 9 * (uint64_t)m < 25 * (uint64_t)h; }
+// Every range is checked at each sample, as document 01 says; with SETTINGS_AT_OPENING the version and the settings beside it at the opening alone.
+#include "limits.h"
 
 // ---- settings and opening
 
-uint8_t settings_fault(const struct settings *s) {
+static bool version_known(uint8_t version) { return version >= 1 && version <= 3; }
+
+static bool pair_speed(uint8_t speed) { return speed == 30 || speed == 40 || speed == 50 || speed == 70; }
+
+uint8_t settings_fault(uint8_t version, const struct settings *s) {
     if (s->vmax < 80 || s->vmax > 200) return 3;
     if (s->tick < 10 || s->tick > 1000) return 4;
     if (s->bts < 1 || s->bts > 200) return 6;
@@ -17,13 +18,22 @@ uint8_t settings_fault(const struct settings *s) {
         if (r->last < 1 || r->last > r->initial) return (uint8_t)(8 + 4 * i);
         if (r->drop < 1) return (uint8_t)(10 + 4 * i);
     }
-    if (s->functions > 15) return 39;
+    if (s->functions > (version == 1 ? 0 : 15)) return 39;
     if (s->functions & 4) {
         if (s->x < 2 || s->x > 6000) return 40;
         if (s->y < 1 || s->y > 5000) return 42;
     } else {
         if (s->x) return 40;
         if (s->y) return 42;
+    }
+    if (version == 3) {
+        for (int i = 0; i < 4; i++)
+            if (!pair_speed(s->pairs[i])) return (uint8_t)(44 + i);
+        if (s->distance < 1 || s->distance > 50) return 48;
+    } else {
+        for (int i = 0; i < 4; i++)
+            if (s->pairs[i]) return (uint8_t)(44 + i);
+        if (s->distance) return 48;
     }
     return 0;
 }
@@ -35,10 +45,11 @@ static uint8_t type_speed(uint8_t train) {
 
 static bool type_allowed(uint8_t train, uint8_t vmax) { return train >= 1 && train <= 8 && type_speed(train) <= vmax; }
 
-uint8_t session_open(struct session *s, const struct settings *settings, uint8_t train) {
-    if (settings_fault(settings)) return 5;
+uint8_t session_open(struct session *s, uint8_t version, const struct settings *settings, uint8_t train) {
+    if (!version_known(version)) return 2;
+    if (settings_fault(version, settings)) return 5;
     if (!type_allowed(train, settings->vmax)) return 7;
-    *s = (struct session){.settings = *settings, .train = train, .desk = {.stood = 10, .main = {.kind = START}}};
+    *s = (struct session){.settings = *settings, .version = version, .train = train, .desk = {.stood = 10, .main = {.kind = START}}};
     return 0;
 }
 
@@ -50,7 +61,9 @@ static bool desk_inside(const struct desk *d) {
     return d->code <= 12 && d->cause <= 6 && d->stood <= 30000 && d->brake_age <= 30000 && d->main.age <= 30000 && d->main.distance <= 60000000 && window_inside(&d->window) &&
            window_inside(&d->side) && d->alongside.age <= 30000 && d->armed.age <= 30000 && d->reminder.age <= 30000 &&
            d->reminder.fast <= 30000 && d->reminder.distance <= 60000000 && d->crossing.age <= 30000 && d->crossing.distance <= 60000000 &&
-           d->option.age <= 30000 && d->option.distance <= 60000000 && d->limit.age <= 30000 && d->limit.steps <= 8;
+           d->option.age <= 30000 && d->option.distance <= 60000000 && d->limit.age <= 30000 && d->limit.steps <= 8 &&
+           d->paired.age[0] <= 30000 && d->paired.age[1] <= 30000 && d->paired.age[2] <= 30000 && d->paired.age[3] <= 30000 &&
+           d->first.distance <= 60000000;
 }
 
 // ---- standstill
@@ -60,13 +73,6 @@ static uint16_t stood_after(const struct desk *d, uint16_t pulses) { return puls
 static bool at_standstill(const struct desk *d, uint16_t pulses) { return pulses == 0 && stood_after(d, pulses) >= 10; }
 
 // ---- mode, ages and misses
-
-static void older(uint16_t *age) { *age = *age < 30000 ? *age + 1 : 30000; }
-
-static void further(uint32_t *distance, uint32_t m) {
-    uint64_t sum = (uint64_t)*distance + m;
-    *distance = sum < 60000000 ? (uint32_t)sum : 60000000;
-}
 
 static void window_older(struct window *w, uint32_t m) {
     if (w->left) w->left--;
@@ -93,12 +99,6 @@ static void set_protected(struct crossing *c, uint16_t age, uint32_t distance, b
     if (c->kind != PROTECTED) c->age = age;
     c->kind = PROTECTED;
     c->distance = distance;
-}
-
-static void set_limit(struct limit *l, uint16_t age) {
-    if (!l->on) l->age = age;
-    l->on = true;
-    l->steps = 0;
 }
 
 static bool asks(const struct window *w) { return w->waits == ONE || w->waits == NINE; }
@@ -134,6 +134,7 @@ static uint8_t advance(struct desk *d, uint32_t m, const struct settings *s) {
     further(&d->option.distance, m);
     if (d->option.age >= 30) d->option.on = false;
     older(&d->limit.age);
+    if (d->paired.on || d->first.code) pairs_older(d, m);
 
     bool main_missed = d->window.waits != NOTHING && d->window.left == 0;
     bool side_missed = d->side.waits != NOTHING && d->side.left == 0;
@@ -177,20 +178,6 @@ static uint16_t waits_for(const struct window *w) {
     }
 }
 
-static uint32_t row_speed(const struct row *r, uint16_t age) {
-    if (age <= r->delay) return r->initial * 100u;
-    uint32_t fall = (uint32_t)(age - r->delay) * r->drop, from = r->initial * 100u, to = r->last * 100u;
-    uint32_t fallen = fall < from ? from - fall : 0;
-    return fallen > to ? fallen : to;
-}
-
-static uint32_t stepped_final(const struct limit *l, uint8_t last, uint32_t top) {
-    uint32_t plain = last * 100u;
-    return l->steps ? least(plain + l->steps * 2000u, least(top, 16000)) : plain;
-}
-
-static bool removable(const struct limit *l, uint32_t m, uint8_t last, uint32_t top) { return l->on && below(m, stepped_final(l, last, top)); }
-
 static void answer_by(struct desk *d, const struct window *w, uint16_t weight) {
     if (!asks(w)) return;
     switch (weight) {
@@ -198,7 +185,7 @@ static void answer_by(struct desk *d, const struct window *w, uint16_t weight) {
     case 2: take_over(d, PREANNOUNCEMENT, w->age, w->distance); break;
     case 4: take_over(d, CAUTION, w->age, w->distance); break;
     case 32: set_unprotected(&d->crossing, w->age, w->distance); break;
-    case 64: set_limit(&d->limit, w->age); break;
+    case 64: set_limit(&d->limit, w->age, true); break;
     }
 }
 
@@ -217,24 +204,22 @@ static bool press(struct desk *d, uint16_t weight) {
     return false;
 }
 
-static void press_all(struct desk *d, uint16_t b, uint32_t m, const struct row *row, uint32_t top) {
+static void press_all(struct desk *d, uint16_t b, uint32_t m, const struct row *row, uint32_t top, uint8_t version) {
     for (uint16_t weight = 1; weight <= 16; weight *= 2)
         if (b & weight) press(d, weight);
     if (b & 32 && !press(d, 32) && d->option.on) {
         set_protected(&d->crossing, d->option.age, d->option.distance, true);
         d->option = (struct option){.on = false};
     }
-    if (b & 64) {
-        bool may_go = removable(&d->limit, m, row->last, top);
-        if (!press(d, 64) && may_go) d->limit = (struct limit){.on = false};
-    }
+    if (b & 64 && !press(d, 64)) take_off(d, m, row->last, top);
     if (b & 128 && !d->bts) {
         if (!lit(&d->reminder)) d->armed = (struct override){.armed = true};
         else if (d->reminder.age >= 1) d->reminder = (struct reminder){.phase = d->reminder.phase == FIRST ? PRESSED : OFF};
     }
     if (b & 256) {
         if (d->main.kind == STOP && !d->main.increased && d->main.age >= 1 && d->main.age <= 99) d->main.increased = true;
-        else if (d->limit.on && row_speed(row, d->limit.age) <= row->last * 100u && stepped_final(&d->limit, row->last, top) < least(top, 16000))
+        else if (d->limit.on && (version != 3 || d->limit.answered) && row_speed(row, d->limit.age) <= row->last * 100u &&
+                 stepped_final(&d->limit, row->last, top) < least(top, 16000))
             d->limit.steps = d->limit.steps < 8 ? d->limit.steps + 1 : 8;
     }
     if (b & 512 && d->limit.steps) d->limit.steps--;
@@ -250,8 +235,21 @@ static void read_row(struct desk *d, uint8_t kind, uint8_t waits) {
     open_window(&d->window, waits);
 }
 
+static void read_limit(struct desk *d, uint8_t code, const struct settings *s, uint8_t version) {
+    count_side(d);
+    if (version == 3 && d->first.code && d->first.distance <= s->distance * 10000u) {
+        if (d->first.own && !d->limit.answered) d->limit = (struct limit){.on = false};
+        set_paired(&d->paired, s->pairs[2 * (d->first.code == 11) + (code == 11)]);
+        d->first = (struct first){.code = 0};
+    } else {
+        if (version == 3) d->first = (struct first){.code = code, .own = !d->limit.on};
+        set_limit(&d->limit, 0, false);
+    }
+    open_window(&d->side, TEN);
+}
+
 // The cause that the reading gives, 0 for none.
-static uint8_t read_beacon(struct desk *d, uint8_t code, uint8_t functions) {
+static uint8_t read_beacon(struct desk *d, uint8_t code, const struct settings *s, uint8_t version) {
     uint8_t cause = 0;
     switch (code) {
     case 1:
@@ -263,16 +261,16 @@ static uint8_t read_beacon(struct desk *d, uint8_t code, uint8_t functions) {
         count_main(d);
         take_over(d, CLEAR, 0, 0);
         d->window = (struct window){.waits = NOTHING};
-        if (functions & 1) d->option = (struct option){.on = true};
+        if (s->functions & 1) d->option = (struct option){.on = true};
         break;
     case 4:
-        if (functions & 1) set_protected(&d->crossing, 0, 0, false);
+        if (s->functions & 1) set_protected(&d->crossing, 0, 0, false);
         break;
     case 5: read_row(d, PREANNOUNCEMENT, FIVE); break;
     case 6: read_row(d, CAUTION, SIX); break;
     case 7:
         count_main(d);
-        if (d->main.kind == BEFORE_STOP && d->main.distance < 800000 && functions & 2) {
+        if (d->main.kind == BEFORE_STOP && d->main.distance < 800000 && s->functions & 2) {
             take_over(d, ZONE, 0, 0);
             d->window = (struct window){.waits = IN_ZONE, .left = 40};
         } else {
@@ -293,20 +291,16 @@ static uint8_t read_beacon(struct desk *d, uint8_t code, uint8_t functions) {
         count_side(d);
         open_window(&d->side, NINE);
         break;
-    default:
-        count_side(d);
-        set_limit(&d->limit, 0);
-        open_window(&d->side, TEN);
-        break;
+    default: read_limit(d, code, s, version); break;
     }
     return cause;
 }
 
-static uint8_t take_beacon(struct desk *d, uint8_t code, uint8_t functions) {
+static uint8_t take_beacon(struct desk *d, uint8_t code, const struct settings *s, uint8_t version) {
     bool side = code == 4 || code >= 9;
-    bool is_read = code >= 1 && code <= 11 && code != d->code && (!d->bts || (side && functions & 8));
+    bool is_read = code >= 1 && code <= 11 && code != d->code && (!d->bts || (side && s->functions & 8));
     d->code = code;
-    return is_read ? read_beacon(d, code, functions) : 0;
+    return is_read ? read_beacon(d, code, s, version) : 0;
 }
 
 // ---- speed, brake and lamps
@@ -327,11 +321,6 @@ static uint32_t main_speed(const struct main_control *c, const struct settings *
     }
 }
 
-static uint32_t limit_speed(const struct limit *l, const struct row *row, uint32_t top) {
-    uint32_t speed = row_speed(row, l->age);
-    return speed > row->last * 100u ? speed : stepped_final(l, row->last, top);
-}
-
 static uint32_t supervised(const struct desk *d, const struct settings *s, uint32_t top) {
     uint32_t speed = least(s->vmax * 100u, top);
     if (d->bts) speed = least(speed, s->bts * 100u);
@@ -340,6 +329,9 @@ static uint32_t supervised(const struct desk *d, const struct settings *s, uint3
     if (d->crossing.kind == PROTECTED) speed = least(speed, least(top, 15500));
     else if (d->crossing.kind == UNPROTECTED) speed = least(speed, row_speed(&s->rows[CROSSING_ROW], d->crossing.age));
     if (d->limit.on) speed = least(speed, limit_speed(&d->limit, &s->rows[LIMIT_ROW], top));
+    if (d->paired.on)
+        for (int i = 0; i < 4; i++)
+            if (paired_on(&d->paired, i)) speed = least(speed, paired_speed(i, top));
     return speed;
 }
 
@@ -359,8 +351,9 @@ static uint8_t lowest(uint8_t a, uint8_t b) { return a == 0 ? b : b == 0 ? a : a
 uint8_t session_sample(struct session *session, uint16_t pulses, uint8_t beacon, uint16_t buttons, uint8_t mode, struct answer *answer) {
     struct settings *s = &session->settings;
     struct desk *d = &session->desk;
+    uint8_t version = session->version;
 #ifndef SETTINGS_AT_OPENING
-    if (settings_fault(s)) return 8;
+    if (!version_known(version) || settings_fault(version, s)) return 8;
 #endif
     if (!type_allowed(session->train, s->vmax) || !desk_inside(d)) return 8;
     if (beacon > 12 || buttons > 2047 || mode < 1 || mode > 2) return 9;
@@ -373,8 +366,8 @@ uint8_t session_sample(struct session *session, uint16_t pulses, uint8_t beacon,
     uint8_t cause = 0;
     if (bts == d->bts) cause = advance(d, m, s);
     else change_mode(d, bts);
-    if (buttons) press_all(d, buttons, m, &s->rows[LIMIT_ROW], top);
-    cause = lowest(cause, take_beacon(d, beacon, s->functions));
+    if (buttons) press_all(d, buttons, m, &s->rows[LIMIT_ROW], top, version);
+    cause = lowest(cause, take_beacon(d, beacon, s, version));
     if (d->crossing.kind == PROTECTED && below(m, 4000)) {
         d->crossing.kind = UNPROTECTED;
         d->crossing.age = 0;
@@ -394,9 +387,9 @@ uint8_t session_sample(struct session *session, uint16_t pulses, uint8_t beacon,
     d->stood = stood_after(d, pulses);
 
     answer->speed = speed;
-    answer->lamps = lamps_of(d, removable(&d->limit, m, s->rows[LIMIT_ROW].last, top), still);
+    answer->lamps = lamps_of(d, one_may_go(d, m, s->rows[LIMIT_ROW].last, top), still);
     answer->cause = d->cause;
     answer->icon = d->crossing.kind == UNPROTECTED ? 2 : d->crossing.kind == PROTECTED && d->crossing.shown ? 1 : 0;
-    answer->limit = d->limit.on;
+    answer->limit = d->limit.on || d->paired.on;
     return 0;
 }

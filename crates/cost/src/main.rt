@@ -1,9 +1,10 @@
 // What a sample costs: a card and a recording are read, the ride is run so many times in a row, and a checksum of all
 // answers is printed. tests/cost has the same in C, and the measurement.
 //
-// Standard input, big-endian: 44 bytes with the card at their start, two with the number of rounds, the recording.
-use card::Reading;
-use card::Settings;
+// Standard input, big-endian: 49 bytes with the card at their start, two with the number of rounds, the recording.
+use card::Card;
+use card::Found;
+use card::card_in;
 use leaf::Refusal;
 use leaf::byte_at;
 use leaf::long_at;
@@ -26,7 +27,7 @@ fn word(high: u8, low: u8) -> u16 {
 
 // The sample of this place; one that is refused where there is none.
 fn sample_at(s: &[u8], place: u16) -> Sample {
-    let at = 52 + 6 * (place as usize);
+    let at = 57 + 6 * (place as usize);
     if s.len() < 6 {
         return Sample {
             pulses: 0,
@@ -122,10 +123,10 @@ fn samples_of(length: u32) -> u16 {
     ((leaf::less(length, 6) / 6) % 65536) as u16
 }
 
-fn ride(s: &[u8], settings: Settings) {
-    let rounds = word_at(s, 44);
-    let samples = samples_of(long_at(s, 46));
-    let opened = Session::open(settings, byte_at(s, 51));
+fn ride(s: &[u8], card: Card) {
+    let rounds = word_at(s, 49);
+    let samples = samples_of(long_at(s, 51));
+    let opened = Session::open(card, byte_at(s, 56));
     match opened {
         Opened::Ready(session) => {
             let sums = run(s, session, samples, rounds);
@@ -144,12 +145,12 @@ fn ride(s: &[u8], settings: Settings) {
 fn main() {
     let mut s = io::large_buffer();
     io::read_full(0, &mut s);
-    let reading = card::read(&s, 2);
-    match reading {
-        Reading::Read(settings) => {
-            ride(&s, settings);
+    let found = card_in(&s, 3);
+    match found {
+        Found::Read(card) => {
+            ride(&s, card);
         }
-        Reading::Refused(refusal) => {
+        Found::Refused(refusal) => {
             io::write_all(1, b"refused ");
             io::print_decimal(1, number_of(refusal) as u64);
             io::write_all(1, b"\n");
