@@ -29,6 +29,10 @@ impl Session {
         if let Some(limit) = self.limit {
             s = s.min(self.limit_value(limit));
         }
+        // "they count as limit in S" (02 g).
+        for (_, value, _) in self.paired_standing() {
+            s = s.min(value);
+        }
         if self.mode == BTS {
             s = s.min(100 * self.settings.bts as i64);
         }
@@ -53,7 +57,8 @@ impl Session {
     /// "Lamps, bits as buttons: what a window waits for, beacon 3's option, override armed or reminded, increase for
     /// stop (ages 0..99, till used), 6 when limit is removable, 10 when braked at standstill." That is "braked after the
     /// brake step and at standstill, also with a fresh cause" (b7). "Each sample with code 12 lights lamp bit 11, the
-    /// alarm" (02 c), "in both modes", and it "is dark in the next sample without 12" (c3).
+    /// alarm" (02 c), "in both modes", and it "is dark in the next sample without 12" (c3). "Lamp 6: any may go, or a window
+    /// waits." (g22)
     fn lamps(&self) -> u16 {
         let mut lamps = 0;
         for window in self.main_window.iter().chain(self.side_window.iter()) {
@@ -72,7 +77,7 @@ impl Session {
         if self.stop_offers_increase() {
             lamps |= 1 << 8;
         }
-        if self.limit_removable() {
+        if !self.removable().is_empty() {
             lamps |= 1 << 6;
         }
         if self.cause != 0 && self.standstill {
@@ -96,6 +101,6 @@ impl Session {
     /// "The answer is S, lamps, cause (0 none), crossing icon ..., limit standing or not", at the end of the sample
     /// (R 45).
     pub fn answer(&self) -> Answer {
-        Answer { s: self.s, lamps: self.lamps(), cause: self.cause, icon: self.icon(), limit: self.limit.is_some() }
+        Answer { s: self.s, lamps: self.lamps(), cause: self.cause, icon: self.icon(), limit: self.limit_stands() }
     }
 }

@@ -1,4 +1,4 @@
-//! The settings card: document 01, "Refusal numbers" and "The card".
+//! The settings card: document 01, "Refusal numbers" and "The card", with version 3 as document 02 g has it.
 
 /// "A refusal returns its number (and place for 5, 12)".
 #[derive(Clone, Copy, PartialEq, Debug)]
@@ -66,6 +66,10 @@ pub struct Settings {
     pub functions: u8,
     pub x: u16,
     pub y: u16,
+    /// "bytes 44–47, the speeds for pairs 10-10, 10-11, 11-10, 11-11" (02 g), in km/h; 0 beside versions 1 and 2.
+    pub pairs: [u8; 4],
+    /// "byte 48, the pair distance 1..50 m" (02 g); 0 beside versions 1 and 2.
+    pub distance: u8,
 }
 
 impl Settings {
@@ -75,10 +79,21 @@ impl Settings {
     }
 }
 
-/// "The version 1 length, 39, and the version 2 length, 44, belong to the card's kind."
+/// "The version 1 length, 39, and the version 2 length, 44, belong to the card's kind." "Card version 3 is version 2 with bytes
+/// 44–47 ... and byte 48 ...; length 49." (02 g)
 pub fn record_length(version: u8) -> usize {
-    if version == 1 { 39 } else { 44 }
+    match version {
+        1 => 39,
+        2 => 44,
+        _ => 49,
+    }
 }
+
+/// "The ride program's highest is 3 from g on." (g6)
+pub const HIGHEST: u8 = 3;
+
+/// "giving 30, 40, 50 or 70 km/h" (02 g).
+pub const PAIR_SPEEDS: [u8; 4] = [30, 40, 50, 70];
 
 pub fn big_endian(bytes: &[u8]) -> u32 {
     bytes.iter().fold(0, |n, b| n << 8 | *b as u32)
@@ -135,32 +150,63 @@ fn first_bad_in_39_to_43(s: &Settings) -> Option<usize> {
     None
 }
 
-/// "setting out of range, with place of the first".
-pub fn first_bad(s: &Settings) -> Option<usize> {
-    first_bad_in_3_to_38(s).or(first_bad_in_39_to_43(s))
+/// "bytes 44–47 ..., each one of those four, and byte 48, the pair distance 1..50 m"; "settings handed in beside version 1 or 2 must
+/// have them 0" (02 g). "Settings beside them with 44..48 not 0: 5 at the first; zeros beside version 3: 5 at 44." (g3)
+fn first_bad_in_44_to_48(version: u8, s: &Settings) -> Option<usize> {
+    let pair_is_good = |speed: u8| if version == 3 { PAIR_SPEEDS.contains(&speed) } else { speed == 0 };
+    let distance_is_good = if version == 3 { s.distance >= 1 && s.distance <= 50 } else { s.distance == 0 };
+    match s.pairs.iter().position(|speed| !pair_is_good(*speed)) {
+        Some(kind) => Some(44 + kind),
+        None if !distance_is_good => Some(48),
+        None => None,
+    }
+}
+
+/// "setting out of range, with place of the first", beside a version 1..3. "A version 1 card has functions 0 (writer: else 5 at
+/// 39)" (R 4), and the opening "judges version and settings as the writer does" (02 g).
+pub fn first_bad(version: u8, s: &Settings) -> Option<usize> {
+    let functions_on_1 = if version == 1 && s.functions != 0 { Some(39) } else { None };
+    first_bad_in_3_to_38(s).or(functions_on_1).or(first_bad_in_39_to_43(s)).or(first_bad_in_44_to_48(version, s))
+}
+
+/// "judges version and settings as the writer does (2, then 5)"; "2 and 6 now allow 3" (02 g).
+pub fn judge(version: u8, s: &Settings) -> Result<(), Refusal> {
+    if version < 1 || version > 3 {
+        return Err(refused(2));
+    }
+    match first_bad(version, s) {
+        Some(place) => Err(refused_at(5, place)),
+        None => Ok(()),
+    }
 }
 
 /// The settings in a record: "With bit 2 off, bytes 40–43 are not looked at and X, Y read as 0"; "A version 1 card
-/// has functions 0".
+/// has functions 0". Versions 1 and 2 "read bytes 44 to 48 as 0" (02 g): "Nothing behind a version 1 or 2 record is looked at."
+/// (g3)
 fn settings_in(record: &[u8], version: u8) -> Settings {
     let mut s = Settings { vmax: record[3], tick: big_endian(&record[4..6]) as u16, bts: record[6], ..Settings::default() };
     for i in 0..8 {
         let four = &record[7 + 4 * i..11 + 4 * i];
         s.rows[i] = Row { initial: four[0], r#final: four[1], delay: four[2], drop: four[3] };
     }
-    if version == 2 {
+    if version >= 2 {
         s.functions = record[39];
         if s.function(2) {
             s.x = big_endian(&record[40..42]) as u16;
             s.y = big_endian(&record[42..44]) as u16;
         }
     }
+    if version == 3 {
+        s.pairs.copy_from_slice(&record[44..48]);
+        s.distance = record[48];
+    }
     s
 }
 
-/// "card reading 6, 1 (under 3), 2, 3, 4, 1 (record), 5". What lies behind the record is not looked at (R 1).
+/// "card reading 6, 1 (under 3), 2, 3, 4, 1 (record), 5". What lies behind the record is not looked at (R 1). "Reader: highest
+/// 1..3, else 6; version 3 under highest 1 or 2, and 4 under 3, is 3." (g2)
 pub fn read(highest: u8, area: &[u8]) -> Result<Settings, Refusal> {
-    if highest != 1 && highest != 2 {
+    if highest < 1 || highest > 3 {
         return Err(refused(6));
     }
     if area.len() < 3 {
@@ -180,14 +226,19 @@ pub fn read(highest: u8, area: &[u8]) -> Result<Settings, Refusal> {
         return Err(refused(1));
     }
     let settings = settings_in(area, version);
-    match first_bad(&settings) {
+    match first_bad(version, &settings) {
         Some(place) => Err(refused_at(5, place)),
         None => Ok(settings),
     }
 }
 
-/// The 44 bytes of settings; of a version 1 record the first 39 with the version 1 length. "The version goes beside
-/// the settings to the writer, which zeroes silent bytes".
+/// What the programs open a session with: the card's version and its settings.
+pub fn version_and_settings(area: &[u8]) -> Result<(u8, Settings), Refusal> {
+    read(HIGHEST, area).map(|settings| (area[2], settings))
+}
+
+/// The bytes of settings as this version has them. "The version goes beside the settings to the writer, which zeroes silent
+/// bytes"; "40–43 stay silent with bit 2 off; 44–48 always speak." (g1)
 pub fn record(version: u8, s: &Settings) -> Vec<u8> {
     let mut r = vec![0, record_length(version) as u8, version, s.vmax];
     r.extend(s.tick.to_be_bytes());
@@ -201,24 +252,16 @@ pub fn record(version: u8, s: &Settings) -> Vec<u8> {
         r.extend(x.to_be_bytes());
         r.extend(y.to_be_bytes());
     }
+    if version == 3 {
+        r.extend(s.pairs);
+        r.push(s.distance);
+    }
     r
 }
 
-/// "writing 2, 5, 13"; "touches nothing beyond the record"; a refusal "leaves buffers ... unchanged". "A version 1
-/// card has functions 0 (writer: else 5 at 39)." (R 4)
+/// "writing 2, 5, 13"; "touches nothing beyond the record"; a refusal "leaves buffers ... unchanged".
 pub fn write(version: u8, s: &Settings, buffer: &mut [u8]) -> Result<(), Refusal> {
-    if version != 1 && version != 2 {
-        return Err(refused(2));
-    }
-    if let Some(place) = first_bad_in_3_to_38(s) {
-        return Err(refused_at(5, place));
-    }
-    if version == 1 && s.functions != 0 {
-        return Err(refused_at(5, 39));
-    }
-    if let Some(place) = first_bad_in_39_to_43(s) {
-        return Err(refused_at(5, place));
-    }
+    judge(version, s)?;
     let record = record(version, s);
     if buffer.len() < record.len() {
         return Err(refused(13));

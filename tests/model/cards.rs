@@ -1,6 +1,7 @@
 //! The cards of lessons/cards, as a teacher reads them: hexadecimal digits, and comments behind a #.
 
 pub const CARD_A: &str = include_str!("../../lessons/cards/A.hex");
+pub const CARD_C: &str = include_str!("../../lessons/cards/C.hex");
 pub const CARD_K: &str = include_str!("../../lessons/cards/K.hex");
 pub const CARD_P: &str = include_str!("../../lessons/cards/P.hex");
 pub const CARD_R: &str = include_str!("../../lessons/cards/R.hex");

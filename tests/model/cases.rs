@@ -31,7 +31,7 @@ pub fn answer(text: &str, out: &mut impl Write) -> io::Result<()> {
 }
 
 /// As many bytes of an area as a case asks for, with another byte where it says which.
-fn changed(area: &[u8], change: &[u8]) -> Vec<u8> {
+pub fn changed(area: &[u8], change: &[u8]) -> Vec<u8> {
     let mut part = area.to_vec();
     if let [_, place, value] = change {
         part[*place as usize] = *value;
@@ -52,15 +52,17 @@ fn read(area: &[u8], case: &[u8]) -> String {
                 numbers.extend([row.initial, row.r#final, row.delay, row.drop].map(u16::from));
             }
             numbers.extend([s.functions.into(), s.x, s.y]);
+            numbers.extend(s.pairs.map(u16::from));
+            numbers.push(s.distance.into());
             numbers.iter().map(u16::to_string).collect::<Vec<_>>().join(" ")
         }
     }
 }
 
-/// The settings in bytes 3 to 43 of a version 2 card, in range or not; what the area does not have is 0.
-fn settings_in(area: &[u8]) -> card::Settings {
+/// The settings in bytes 3 to 48 of a version 3 card, in range or not; what the area does not have is 0.
+pub fn settings_in(area: &[u8]) -> card::Settings {
     let mut bytes = area.to_vec();
-    bytes.resize(44, 0);
+    bytes.resize(49, 0);
     let mut s = card::Settings {
         vmax: bytes[3],
         tick: big_endian(&bytes[4..6]) as u16,
@@ -68,6 +70,8 @@ fn settings_in(area: &[u8]) -> card::Settings {
         functions: bytes[39],
         x: big_endian(&bytes[40..42]) as u16,
         y: big_endian(&bytes[42..44]) as u16,
+        pairs: [bytes[44], bytes[45], bytes[46], bytes[47]],
+        distance: bytes[48],
         ..card::Settings::default()
     };
     for (row, four) in s.rows.iter_mut().zip(bytes[7..39].chunks(4)) {

@@ -1,11 +1,13 @@
 //! The model's own checks: the paper's ride, "Both sides of each line", tones and cards; those of the receiver are in
 //! receive_check.rs, those of standstill in stand_check.rs, those of the quiet pickup in quiet_check.rs, those of replay in
-//! replay_check.rs and replay_laws.rs, those of the reason in why_check.rs and why_printed_check.rs. tests/compare/run has it
-//! print the lessons and the readings too.
+//! replay_check.rs and replay_laws.rs, those of the reason in why_check.rs and why_printed_check.rs, those of pairs in
+//! pairs_check.rs and pairs_laws.rs. tests/compare/run has it print the lessons and the readings too.
 
 use crate::card::{self, refused, refused_at, Row, Settings};
 use crate::cards::{unhex, CARD_A, CARD_P, CARD_R, CARD_R2, CARD_RL};
 use crate::desk::{Answer, Main, Sample, Session};
+use crate::pairs_check;
+use crate::pairs_laws;
 use crate::quiet_check;
 use crate::receive_check;
 use crate::replay_check;
@@ -51,6 +53,8 @@ pub fn all(out: &mut impl Write) -> io::Result<usize> {
     replay_laws::all(&mut checks);
     why_check::all(&mut checks);
     why_printed_check::all(&mut checks);
+    pairs_check::all(&mut checks);
+    pairs_laws::all(&mut checks);
     for line in &checks.failed {
         writeln!(out, "failed: {line}")?;
     }
@@ -63,7 +67,7 @@ fn settings(card: &str) -> Settings {
 }
 
 fn open(card: &str, train: u8) -> Session {
-    Session::open(settings(card), train).unwrap()
+    Session::open(unhex(card)[2], settings(card), train).unwrap()
 }
 
 fn step(session: &mut Session, pulses: u16, beacon: u8, buttons: u16) -> Answer {
@@ -142,7 +146,7 @@ fn presses(checks: &mut Checks) {
 /// "Crossing turns at m 11,111, not 11,112." "Beacon 7 again at 799,999 zone, 800,000 none."
 fn crossing_and_zone(checks: &mut Checks) {
     for (tick, pulses, icon) in [(41, 271, 2), (12, 926, 0)] {
-        let mut session = Session::open(Settings { tick, ..settings(CARD_R) }, 6).unwrap();
+        let mut session = Session::open(2, Settings { tick, ..settings(CARD_R) }, 6).unwrap();
         let answer = step(&mut session, pulses, 4, 0);
         checks.equal("crossing turns", (session.m, answer.icon), (if icon == 2 { 11_111 } else { 11_112 }, icon));
     }
@@ -173,7 +177,7 @@ fn increase_and_limit(checks: &mut Checks) {
     }
     checks.equal("removal", step(&mut session, 166, 0, 64).limit, false);
     // "Button 6 removes it when speed is below": 60.00 km/h is m 16,666.7.
-    let mut session = Session::open(Settings { tick: 10, ..settings(CARD_A) }, 2).unwrap();
+    let mut session = Session::open(1, Settings { tick: 10, ..settings(CARD_A) }, 2).unwrap();
     step(&mut session, 1667, 10, 0);
     let lamps = step(&mut session, 1667, 0, 64).lamps;
     checks.equal("16,670 is not below", (lamps, step(&mut session, 1667, 0, 64).limit), (0, true));
@@ -191,7 +195,8 @@ fn card_lines(checks: &mut Checks) {
     checks.equal("cut record", card::read(1, &a[..38]), Err(refused(1)));
     checks.equal("under 3", card::read(1, &a[..2]), Err(refused(1)));
     checks.equal("highest 0", card::read(0, &[]), Err(refused(6)));
-    checks.equal("highest 3", card::read(3, &a), Err(refused(6)));
+    checks.equal("highest 3", card::read(3, &a), Ok(settings(CARD_A)));
+    checks.equal("highest 4", card::read(4, &a), Err(refused(6)));
     checks.equal("version 0", card::read(2, &[0, 39, 0]), Err(refused(2)));
     let mut behind = a.clone();
     behind.extend([255; 9]);
@@ -231,7 +236,7 @@ fn writer(checks: &mut Checks) {
     checks.equal("card R written", card::write(2, &r, &mut buffer), Ok(()));
     checks.equal("card R's bytes", buffer.to_vec(), [unhex(CARD_R), vec![0xee; 6]].concat());
     checks.equal("13", card::write(2, &r, &mut [0xee; 43]), Err(refused(13)));
-    checks.equal("2", card::write(3, &r, &mut buffer), Err(refused(2)));
+    checks.equal("2", card::write(4, &r, &mut buffer), Err(refused(2)));
     checks.equal("5 at 39", card::write(1, &r, &mut buffer), Err(refused_at(5, 39)));
     checks.equal("5 at 40", card::write(2, &Settings { functions: 11, ..r }, &mut buffer), Err(refused_at(5, 40)));
     let no_x = Settings { functions: 0, x: 0, ..r };

@@ -1,7 +1,7 @@
 //! Stop, override, reminder, crossing and limit: document 01, "Controls".
 
 use crate::card::{LIMIT, UNPROTECTED};
-use crate::desk::{below, Crossing, Limit, Main, Reminder, Session, BTS, METRE};
+use crate::desk::{Crossing, Limit, Main, Reminder, Session, BTS, METRE};
 
 impl Session {
     /// "8 sets stop: 40 km/h"; increase "makes it min(T, 100)".
@@ -138,11 +138,18 @@ impl Session {
         }
     }
 
-    /// "Limit: row 6. A repeat sets steps to 0 and keeps its age."
-    pub fn set_limit(&mut self, age: i64) {
+    /// "Limit: row 6. A repeat sets steps to 0 and keeps its age." Set by an answered 1 or 9, or by a 10 or 11. "Set since by an
+    /// answered 9 (or 1, till n) it stays" (g16): it is the first's own no more.
+    pub fn set_limit(&mut self, age: i64, answered: bool) {
         match &mut self.limit {
-            Some(limit) => limit.steps = 0,
-            None => self.limit = Some(Limit { age, steps: 0 }),
+            Some(limit) => {
+                limit.steps = 0;
+                limit.answered = answered;
+            }
+            None => self.limit = Some(Limit { age, steps: 0, answered }),
+        }
+        if let (Some(first), true) = (&mut self.first, answered) {
+            first.own = false;
         }
     }
 
@@ -176,10 +183,16 @@ impl Session {
         }
     }
 
+    /// "Steps of 20 km/h work only for limits last set by beacons 1 and 9" (02 g): "Increase steps the limit if the version is not 3
+    /// or an answered 1 or 9 last set it ... Else the press is lost" (g26).
+    fn may_step(&self, limit: Limit) -> bool {
+        self.version != 3 || limit.answered
+    }
+
     /// "At its final value, increase ... adds a 20 km/h step, up to min(T, 160); at or over that a press adds none".
     fn add_step(&mut self) {
         if let Some(limit) = self.limit {
-            if self.limit_at_final(limit) && self.limit_final(limit) < self.step_top() {
+            if self.may_step(limit) && self.limit_at_final(limit) && self.limit_final(limit) < self.step_top() {
                 self.limit = Some(Limit { steps: limit.steps + 1, ..limit });
             }
         }
@@ -189,18 +202,6 @@ impl Session {
     pub fn hide_step(&mut self) {
         if let Some(limit) = &mut self.limit {
             limit.steps = (limit.steps - 1).max(0);
-        }
-    }
-
-    /// Lamp 6 and removal: "when speed is below its final value, steps included", by this sample's m (R 39).
-    pub fn limit_removable(&self) -> bool {
-        self.limit.is_some_and(|limit| below(self.m, self.limit_final(limit)))
-    }
-
-    /// "Button 6 removes it when speed is below its final value, steps included."
-    pub fn remove_limit(&mut self) {
-        if self.limit_removable() {
-            self.limit = None;
         }
     }
 }

@@ -34,9 +34,9 @@ pub fn damaged(rng: &mut Rng, samples: usize) -> (Vec<u8>, Vec<u8>) {
             0 => card = card_area(rng),
             1 => {
                 let place = rng.pick(&[0, 1, 2, 2, 3, 4, 6, 7, 8, 10, 38]).min(card.len() - 1);
-                card[place] = rng.pick(&[0, 1, 2, 3, 38, 201, 255]);
+                card[place] = rng.pick(&[0, 1, 2, 3, 4, 38, 201, 255]);
             }
-            2 => card.truncate(rng.within(0, 44) as usize),
+            2 => card.truncate(rng.within(0, 49) as usize),
             3 | 4 => bend_frame(rng, &mut bytes),
             5 | 6 => {
                 train = if rng.chance(50) { rng.pick(&[0, 9, 255]) } else { rng.within(train as i64, 9) as u8 };

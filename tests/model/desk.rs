@@ -1,7 +1,7 @@
 //! The session and the order of a sample: document 01, "The sample", with standstill as document 02 b has it,
-//! the quiet pickup as 02 c and the brake's age as 02 f have it.
+//! the quiet pickup as 02 c, the brake's age as 02 f and the version and the pairs as 02 g have them.
 
-use crate::card::{Settings, START};
+use crate::card::{self, Refusal, Settings, START};
 
 /// "mode 1 CONV or 2 BTS".
 pub const CONV: u8 = 1;
@@ -63,10 +63,22 @@ pub struct Crossing {
     pub shown: bool,
 }
 
+/// The single limit: row 6.
 #[derive(Clone, Copy, PartialEq, Debug)]
 pub struct Limit {
     pub age: i64,
     pub steps: i64,
+    /// Whether an answered 1 or 9 last set it, and not a 10 or 11 (g26).
+    pub answered: bool,
+}
+
+/// "The first is the last 10 or 11 read that is in no pair." (g8) Its code, the distance from it, and whether the single limit is
+/// its own: none stood as it was read, "and nothing else has set it since" (g15).
+#[derive(Clone, Copy, PartialEq, Debug)]
+pub struct First {
+    pub code: u8,
+    pub distance: i64,
+    pub own: bool,
 }
 
 /// "the stop limit stays alongside": its own age, and the value it had (R 27).
@@ -106,6 +118,8 @@ pub struct Answer {
 
 #[derive(Clone, Debug)]
 pub struct Session {
+    /// "The session holds the version" (g5).
+    pub version: u8,
     pub settings: Settings,
     pub train: u8,
     pub mode: u8,
@@ -127,6 +141,9 @@ pub struct Session {
     pub offer: Option<Offer>,
     pub crossing: Option<Crossing>,
     pub limit: Option<Limit>,
+    /// The ages of the paired limits that stand, in the order of their speeds, 30, 40, 50, 70 km/h.
+    pub paired: [Option<i64>; 4],
+    pub first: Option<First>,
     // This sample's own: m, whether it is a standstill, the causes that arose in it, rearm pressed, S.
     pub m: i64,
     pub standstill: bool,
@@ -150,22 +167,21 @@ pub fn below(m: i64, h: i64) -> bool {
     9 * m < 25 * h
 }
 
-fn older(age: i64) -> i64 {
+pub fn older(age: i64) -> i64 {
     (age + 1).min(AGE_TOP)
 }
 
 impl Session {
-    /// Opening: "5, 7", 7 "train type not 1..8, or faster than vmax". "It opens in CONV with the start row as main
-    /// (age 1 in the first sample), last code 0." "a newly opened session counts as standing" (02 b): "It opens at 10"
-    /// (b2).
-    pub fn open(settings: Settings, train: u8) -> Result<Session, crate::card::Refusal> {
-        if let Some(place) = crate::card::first_bad(&settings) {
-            return Err(crate::card::refused_at(5, place));
-        }
+    /// "Opening(version, settings, type): 2, 5, 7." (g4) 7 is "train type not 1..8, or faster than vmax". "It opens in CONV with the
+    /// start row as main (age 1 in the first sample), last code 0." "a newly opened session counts as standing" (02 b): "It opens at
+    /// 10" (b2).
+    pub fn open(version: u8, settings: Settings, train: u8) -> Result<Session, Refusal> {
+        card::judge(version, &settings)?;
         if train < 1 || train > 8 || train_speed(train) > settings.vmax as i64 {
-            return Err(crate::card::refused(7));
+            return Err(card::refused(7));
         }
         Ok(Session {
+            version,
             settings,
             train,
             mode: CONV,
@@ -185,6 +201,8 @@ impl Session {
             offer: None,
             crossing: None,
             limit: None,
+            paired: [None; 4],
+            first: None,
             m: 0,
             standstill: true,
             arisen: Vec::new(),
@@ -278,7 +296,8 @@ impl Session {
     }
 
     /// "BTS: entering drops all controls, windows and armed override; leaving drops them and sets start." Brake,
-    /// cause and last code survive (R 42), and "a mode change leaves the count alone" (b4). True when BTS was left.
+    /// cause and last code survive (R 42), and "a mode change leaves the count alone" (b4). "a mode change parts" a pair (02 g), and
+    /// "Until j a mode change drops paired limits too." (g28) True when BTS was left.
     fn change_mode(&mut self, mode: u8) -> bool {
         if mode == self.mode {
             return false;
@@ -296,73 +315,9 @@ impl Session {
         self.offer = None;
         self.crossing = None;
         self.limit = None;
+        self.paired = [None; 4];
+        self.first = None;
         mode == CONV
-    }
-
-    /// "ages and distances advance": m is "the travel in tenths of a millimetre".
-    fn advance(&mut self) {
-        let m = self.m;
-        let farther = |distance: i64| (distance + m).min(DISTANCE_TOP);
-        // "The brake's age advances with the others" (f8), in a sample that changes the mode too.
-        self.brake_age = older(self.brake_age);
-        self.main_age = older(self.main_age);
-        self.main_distance = farther(self.main_distance);
-        if let Some(alongside) = &mut self.alongside {
-            alongside.age = older(alongside.age);
-        }
-        if let Some(age) = &mut self.armed {
-            *age = older(*age);
-        }
-        for window in self.main_window.iter_mut().chain(self.side_window.iter_mut()) {
-            window.age = older(window.age);
-            window.distance = farther(window.distance);
-            window.left -= 1;
-        }
-        if let Some(offer) = &mut self.offer {
-            offer.age = older(offer.age);
-            offer.distance = farther(offer.distance);
-        }
-        if let Some(crossing) = &mut self.crossing {
-            crossing.age = older(crossing.age);
-            crossing.distance = farther(crossing.distance);
-        }
-        if let Some(limit) = &mut self.limit {
-            limit.age = older(limit.age);
-        }
-        match &mut self.reminder {
-            Reminder::Lit { age, .. } => *age = older(*age),
-            // "X samples past the press at 5 km/h or more": 9m ≥ 12,500 (R 30).
-            Reminder::Pressed { samples, distance } => {
-                if 9 * m >= 12_500 {
-                    *samples = older(*samples);
-                }
-                *distance = farther(*distance);
-            }
-            Reminder::No | Reminder::Waits => {}
-        }
-    }
-
-    /// Endings and the protected icon, in the second step (R 11): crossing "ends at 1,800 m"; stop alongside "for
-    /// ages 0..199"; override "for ages 0..99"; beacon 3's option "at ages 1..29"; icon "35 m after beacon 4".
-    /// "Distances (80 m aside) count as reached at that distance or more."
-    fn end_what_ends(&mut self) {
-        if self.crossing.is_some_and(|crossing| crossing.distance >= 1_800 * METRE) {
-            self.crossing = None;
-        }
-        if self.alongside.is_some_and(|alongside| alongside.age >= 200) {
-            self.alongside = None;
-        }
-        if self.armed.is_some_and(|age| age >= 100) {
-            self.armed = None;
-        }
-        if self.offer.is_some_and(|offer| offer.age >= 30) {
-            self.offer = None;
-        }
-        if let Some(crossing) = &mut self.crossing {
-            if crossing.protected && crossing.distance >= 35 * METRE {
-                crossing.shown = true;
-            }
-        }
     }
 
     /// "A press serves one use: main, then side, then others."

@@ -60,11 +60,12 @@ pub fn make_line(seed: u64) -> (Vec<u8>, Vec<u8>) {
 }
 
 fn line(rng: &mut Rng, kind: Kind) -> Line {
-    let (card, session) = fresh(rng, "pieces");
+    let fresh_for = rng.pick(&["pieces", "pieces", "pieces", "pairs"]);
+    let (card, session) = fresh(rng, fresh_for);
     let (train, tick, vmax) = (session.train, session.settings.tick, session.settings.vmax);
-    let ride = rng.pick(&["random", "answers", "drive", "stand", "quiet"]);
+    let ride = rng.pick(&["random", "answers", "drive", "stand", "quiet", "pairs"]);
     // Ten samples of standing need room.
-    let most = if ride == "stand" || ride == "quiet" { 24 } else { rng.pick(&[1, 2, 3, 8, 24]) };
+    let most = if ["stand", "quiet", "pairs"].contains(&ride) { 24 } else { rng.pick(&[1, 2, 3, 8, 24]) };
     let n = if kind == Kind::NoSamples { 0 } else { rng.within(1, most) };
     let seed = rng.next();
     let samples = run(Rng::new(ride, seed), session, ride, n as usize).unwrap();
@@ -214,13 +215,14 @@ impl Line {
 /// Each refusal of a card, or any card.
 pub fn bend_card(rng: &mut Rng, card: &mut Vec<u8>) {
     let whole = card.len() as i64;
-    match rng.within(0, 7) {
+    match rng.within(0, 8) {
         0 => card.truncate(rng.within(0, 2) as usize),
         1 => card.truncate(rng.within(3, whole.min(38)) as usize),
         2 => card[2] = 0,
-        3 => card[2] = 3,
-        4 => card[1] = rng.pick(&[38, 40, 43, 45]),
-        5 => card[rng.pick(&[3, 6, 7, 8, 10])] = 0,
+        3 => card[2] = 4,
+        4 => card[1] = rng.pick(&[38, 40, 43, 45, 48, 50]),
+        5 => card[rng.pick(&[3, 6, 7, 8, 10, 44, 48]).min(whole as usize - 1)] = 0,
+        6 => card[2] = rng.pick(&[0, 0, 4]),
         _ => *card = card_area(rng),
     }
 }

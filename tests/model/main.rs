@@ -1,9 +1,12 @@
 //! A model of document 01, and of what document 02 adds, written from their sentences and readings alone, to compare other programs
 //! with. See tests/compare.
 
+mod advance;
+mod aim;
 mod answer;
 mod card;
 mod cards;
+mod cards_rows;
 mod cases;
 mod check;
 mod controls;
@@ -13,6 +16,11 @@ mod kinds;
 mod line;
 mod make;
 mod notation;
+mod pairs;
+mod pairs_check;
+mod pairs_kind;
+mod pairs_laws;
+mod pairs_rows;
 mod pieces;
 mod quiet;
 mod quiet_check;
@@ -50,10 +58,10 @@ model why CARD [words] < RECORDING
 model receive CARD LENGTH[,LENGTH..] < LINE
 model replay CARD QUOTA.. < RECORDING
 model cover CARD < RECORDING
-model cover-pieces|cover-replays|cover-tones|cover-whys < BATCH
+model cover-cards|cover-settings|cover-tones|cover-pieces|cover-replays|cover-whys < BATCH
 model answer < BATCH
 model make cards|settings|tones|pieces|replays|whys SEED SIZE > BATCH
-model make-ride random|answers|drive|long|stand|quiet|why|damaged SEED SAMPLES CARDFILE RECFILE
+model make-ride random|answers|drive|long|stand|quiet|why|pairs|damaged SEED SAMPLES CARDFILE RECFILE
 model make-line SEED CARDFILE LINEFILE
 model self";
 
@@ -89,8 +97,13 @@ fn main() -> io::Result<()> {
                 writeln!(out, "{count} {row}")?;
             }
         }
-        [what @ ("cover-replays" | "cover-whys")] => {
-            let cover = if what == "cover-replays" { replay_rows::cover } else { whys_rows::cover };
+        [what @ ("cover-cards" | "cover-settings" | "cover-replays" | "cover-whys")] => {
+            let cover = match what {
+                "cover-cards" => cards_rows::cover_cards,
+                "cover-settings" => cards_rows::cover_settings,
+                "cover-replays" => replay_rows::cover,
+                _ => whys_rows::cover,
+            };
             for (row, count) in cover(&io::read_to_string(io::stdin())?) {
                 writeln!(out, "{count} {row}")?;
             }

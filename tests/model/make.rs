@@ -1,7 +1,7 @@
 //! Batches of cases by seed: cards to read, settings to write, sheets with tones; recordings in pieces are line.rs's, replays
 //! replay_make.rs's, reasons whys_make.rs's.
 
-use crate::card::{self, Row, Settings};
+use crate::card::{self, Row, Settings, PAIR_SPEEDS};
 use crate::cards::{unhex, CARD_A, CARD_P, CARD_R, CARD_R2, CARD_RL};
 use crate::cases::hex;
 use crate::check::SHEET;
@@ -102,8 +102,27 @@ fn any_tick(rng: &mut Rng) -> u16 {
     }
 }
 
+/// Speeds for the four kinds of pairs, any or all the same, and a pair distance: what version 3 adds.
+pub fn pair_settings(rng: &mut Rng, s: &mut Settings) {
+    s.pairs = [0; 4].map(|_| rng.pick(&PAIR_SPEEDS));
+    if rng.chance(15) {
+        s.pairs = [s.pairs[0]; 4];
+    }
+    s.distance = if rng.chance(50) { rng.within(1, 50) as u8 } else { rng.pick(&[1, 2, 10, 10, 20, 49, 50, 50]) };
+}
+
 /// A card in range and its version; functions 0 on version 1.
 pub fn good_settings(rng: &mut Rng) -> (u8, Settings) {
+    let (mut version, mut s) = older_settings(rng);
+    if rng.chance(if version == 1 { 20 } else { 55 }) {
+        version = 3;
+        pair_settings(rng, &mut s);
+    }
+    (version, s)
+}
+
+/// A card of version 1 or 2 in range.
+fn older_settings(rng: &mut Rng) -> (u8, Settings) {
     let mut s = match rng.within(0, 9) {
         0 | 1 | 2 => any_settings(rng),
         3 | 4 | 5 => quick_settings(rng),
@@ -137,7 +156,7 @@ pub fn good_settings(rng: &mut Rng) -> (u8, Settings) {
 fn bend(rng: &mut Rng, s: &mut Settings) {
     let byte = rng.byte();
     let row = rng.within(0, 7) as usize;
-    match rng.within(0, 8) {
+    match rng.within(0, 10) {
         0 => s.vmax = rng.pick(&[0, 79, 80, 200, 201, 255, byte]),
         1 => s.tick = rng.pick(&[0, 9, 10, 1000, 1001, 65535, 256, byte as u16]),
         2 => s.bts = rng.pick(&[0, 1, 200, 201, 255, byte]),
@@ -146,14 +165,29 @@ fn bend(rng: &mut Rng, s: &mut Settings) {
         5 => s.rows[row].drop = rng.pick(&[0, 1, 255, byte]),
         6 => s.functions = rng.pick(&[0, 4, 11, 15, 16, 20, 255, byte]),
         7 => s.x = rng.pick(&[0, 1, 2, 6000, 6001, 65535, byte as u16]),
-        _ => s.y = rng.pick(&[0, 1, 5000, 5001, 65535, byte as u16]),
+        8 => s.y = rng.pick(&[0, 1, 5000, 5001, 65535, byte as u16]),
+        _ => bend_pairs(rng, s),
+    }
+}
+
+/// A pair's speed at or beside one of the four, or the distance at or beside an end; or none of them, as versions 1 and 2 have it.
+fn bend_pairs(rng: &mut Rng, s: &mut Settings) {
+    let byte = rng.byte();
+    match rng.within(0, 12) {
+        0..=9 => {
+            let speed = rng.pick(&PAIR_SPEEDS);
+            let beside = rng.pick(&[speed - 1, speed, speed + 1]);
+            s.pairs[rng.within(0, 3) as usize] = if rng.chance(15) { rng.pick(&[0, 0, 0, 60, 255, byte]) } else { beside };
+        }
+        10 | 11 => s.distance = rng.pick(&[0, 1, 50, 51, 255, byte]),
+        _ => (s.pairs, s.distance) = ([0; 4], rng.pick(&[0, 0, 10])),
     }
 }
 
 /// A record of these settings as a card carries it; silent bytes may hold anything.
 pub fn card_bytes(rng: &mut Rng, version: u8, s: &Settings) -> Vec<u8> {
     let mut bytes = card::record(version, s);
-    if version == 2 && !s.function(2) && rng.chance(60) {
+    if version != 1 && !s.function(2) && rng.chance(60) {
         for place in 40..44 {
             bytes[place] = rng.byte();
         }
@@ -164,6 +198,14 @@ pub fn card_bytes(rng: &mut Rng, version: u8, s: &Settings) -> Vec<u8> {
 /// A card area: as it should be, damaged in one place, cut short, with garbage behind, or of random bytes.
 pub fn card_area(rng: &mut Rng) -> Vec<u8> {
     let (version, mut s) = good_settings(rng);
+    if version == 3 && rng.chance(40) {
+        // Nothing else is damaged, but X or Y now and then.
+        bend_pairs(rng, &mut s);
+        if s.function(2) && rng.chance(8) {
+            (s.x, s.y) = rng.pick(&[(1, 1), (2, 0)]);
+        }
+        return card_bytes(rng, version, &s);
+    }
     if rng.chance(40) {
         bend(rng, &mut s);
     }
@@ -173,9 +215,9 @@ pub fn card_area(rng: &mut Rng) -> Vec<u8> {
             let place = rng.within(0, area.len() as i64 - 1) as usize;
             area[place] = rng.byte();
         }
-        1 => area.truncate(rng.within(0, 44) as usize),
+        1 => area.truncate(if rng.chance(50) { rng.pick(&[38, 39, 43, 44, 48]) } else { rng.within(0, 49) as usize }),
         2 => area[2] = rng.pick(&[0, 1, 2, 3, 4, 255]),
-        3 => area[1] = rng.pick(&[0, 38, 39, 40, 43, 44, 45]),
+        3 => area[1] = rng.pick(&[0, 38, 39, 40, 43, 44, 45, 48, 49, 50]),
         4 => area[0] = rng.pick(&[0, 1, 255]),
         5 => {
             let length = rng.within(0, 60);
@@ -184,7 +226,7 @@ pub fn card_area(rng: &mut Rng) -> Vec<u8> {
         _ => {}
     }
     if rng.chance(10) && area.len() > 2 {
-        area[rng.pick(&[1, 2])] = rng.pick(&[0, 1, 2, 3, 39, 44]);
+        area[rng.pick(&[1, 2])] = rng.pick(&[0, 1, 2, 3, 4, 39, 44, 49]);
     }
     if rng.chance(25) {
         let length = rng.within(1, 20);
@@ -194,27 +236,47 @@ pub fn card_area(rng: &mut Rng) -> Vec<u8> {
 }
 
 fn card_case(rng: &mut Rng) -> String {
-    let area = card_area(rng);
-    let highest: u8 = if rng.chance(65) { 2 } else { rng.pick(&[0, 1, 1, 1, 2, 3, 4, 255]) };
+    let mut area = card_area(rng);
+    let mut highest: u8 = if rng.chance(65) { 3 } else { rng.pick(&[0, 1, 1, 1, 2, 2, 2, 3, 4, 255]) };
+    if rng.chance(10) && area.len() > 2 {
+        // Any version under any highest.
+        area[2] = rng.within(0, 4) as u8;
+        highest = rng.within(0, 4) as u8;
+    }
     format!("area {}\nread {highest:02x}\n", hex(&area))
 }
 
 fn settings_case(rng: &mut Rng) -> String {
     let (mut version, mut s) = good_settings(rng);
-    if rng.chance(55) {
-        bend(rng, &mut s);
+    match rng.within(0, 9) {
+        0 | 1 | 2 => bend(rng, &mut s),
+        3 | 4 | 5 => bend_pairs(rng, &mut s),
+        _ => {}
     }
     if rng.chance(15) {
         bend(rng, &mut s);
     }
-    if rng.chance(15) {
-        version = rng.pick(&[0, 1, 2, 3, 255]);
+    if rng.chance(20) {
+        version = rng.pick(&[0, 1, 2, 3, 4, 255]);
     }
-    let room = if rng.chance(50) { rng.pick(&[0, 38, 39, 40, 43, 44, 45, 64]) } else { rng.within(0, 64) };
-    // A version 2 record carries the settings in order, but zeroes X and Y with bit 2 off: they go in as they are.
+    if rng.chance(10) && version < 3 {
+        // One of what version 3 adds beside another version.
+        (s.pairs, s.distance) = ([0; 4], 0);
+        match rng.within(0, 4) as usize {
+            4 => s.distance = rng.pick(&[1, 10, 255]),
+            kind => s.pairs[kind] = rng.pick(&[1, 30, 70]),
+        }
+    }
+    let room = if rng.chance(50) { rng.pick(&[0, 38, 39, 40, 43, 44, 45, 48, 49, 50, 64]) } else { rng.within(0, 64) };
+    // A record carries the settings in order, but zeroes X and Y with bit 2 off: they go in as they are.
     let mut area = card::record(2, &s)[..40].to_vec();
     area.extend(s.x.to_be_bytes());
     area.extend(s.y.to_be_bytes());
+    area.extend(s.pairs);
+    area.push(s.distance);
+    if s.pairs == [0; 4] && s.distance == 0 && rng.chance(50) {
+        area.truncate(44); // what the area does not have is 0
+    }
     format!("area {}\nwrite {version:02x} {room:02x} {:02x}\n", hex(&area), rng.byte())
 }
 

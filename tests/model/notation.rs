@@ -6,7 +6,8 @@ use crate::desk::{Answer, Sample, Session};
 
 /// A session opened on this card with train type 6.
 pub fn on(card: &str) -> Session {
-    Session::open(card::read(2, &unhex(card)).unwrap(), 6).unwrap()
+    let (version, settings) = card::version_and_settings(&unhex(card)).unwrap();
+    Session::open(version, settings, 6).unwrap()
 }
 
 /// "A sample is pulses/beacon/buttons/mode, trailing zeros and mode 1 left out, n× repeats."

@@ -125,8 +125,8 @@ pub fn print(card: &[u8], bytes: &[u8], lengths: &[usize], out: &mut impl Write)
 }
 
 /// What a batch may meet, a row each: both sides of every line of a2 to a4, refusal 11 as 02 b has it, and the calls of
-/// a5 to a9.
-const ROWS: [&str; 69] = [
+/// a5 to a9; and that pairs are made.
+const ROWS: [&str; 71] = [
     "byte 0 is 0", "byte 0 is not 0", "byte 1 is 0", "byte 1 is not 0", "byte 2 is EA", "byte 2 is EB",
     "stated 0", "stated 6", "stated 7", "stated 12", "stated 60006", "stated 60007", "stated 60012",
     "version 1", "version 0", "version 2", "type 0", "the last type that is allowed", "the first that is not",
@@ -143,6 +143,7 @@ const ROWS: [&str; 69] = [
     "cut before byte 0 of a sample", "cut before byte 1 of a sample", "cut before byte 2 of a sample",
     "cut before byte 3 of a sample", "cut before byte 4 of a sample", "cut before byte 5 of a sample",
     "card refused 1", "card refused 2", "card refused 3", "card refused 4", "card refused 5",
+    "a pair made", "a 10 or 11 on an older card, no pair",
 ];
 
 /// How often a batch meets each row.
@@ -203,7 +204,7 @@ fn meet(card: &[u8], calls: &[Call], met: &mut Vec<String>) {
 /// A byte on an open line, before it is taken.
 fn meet_byte(receiver: &Receiver, byte: u8, met: &mut Vec<String>) {
     let session = match &receiver.desk {
-        Desk::Settings(settings) => {
+        Desk::Settings(_, settings) => {
             return match receiver.taken {
                 0 | 1 => met.push(format!("byte {} is {}", receiver.taken, if byte == 0 { "0" } else { "not 0" })),
                 2 => met.push(format!("byte 2 is {byte:02X}")),
@@ -239,7 +240,13 @@ fn meet_byte(receiver: &Receiver, byte: u8, met: &mut Vec<String>) {
         let pulses = u16::from_be_bytes([receiver.held[0], receiver.held[1]]);
         let buttons = u16::from_be_bytes([receiver.held[3], receiver.held[4]]);
         let sample = Sample { pulses, beacon: receiver.held[2], buttons, mode: byte };
-        match session.clone().sample(sample) {
+        let mut behind = session.clone();
+        let answer = behind.sample(sample);
+        let sets = behind.paired.contains(&Some(0)) || (behind.version != 3 && behind.limit.is_some() && sample.beacon > 9);
+        if answer.is_ok() && sets && sample.beacon != session.last_code {
+            met.push(if behind.version == 3 { "a pair made" } else { "a 10 or 11 on an older card, no pair" }.into());
+        }
+        match answer {
             Ok(_) if pulses as i64 * session.settings.tick as i64 == 100_000 => met.push("m 100,000".into()),
             Ok(_) if byte != session.mode => met.push("mode changed at standstill".into()),
             Ok(_) => {}

@@ -129,7 +129,7 @@ fn functions(checks: &mut Checks) {
         if !settings.function(2) {
             settings = Settings { x: 0, y: 0, ..settings };
         }
-        let mut session = Session::open(settings, 6).unwrap();
+        let mut session = Session::open(2, settings, 6).unwrap();
         let got: Vec<String> = run(&mut session, "0/12, 0/12/0/2, 0/0/1024/2, 0/12/0/2, 0/12").iter().map(words).collect();
         let wanted = ["14000 3072 6 0 0", "10000 3072 6 0 0", "10000 0 0 0 0", "10000 2048 0 0 0", "14000 3072 6 0 0"];
         checks.equal("functions", got, wanted.map(String::from).to_vec());
@@ -243,7 +243,7 @@ struct Met {
 fn in_its_place(checks: &mut Checks) {
     let mut met = Met::default();
     let kinds = [("random", 400, 80), ("answers", 800, 80), ("drive", 800, 60), ("long", 2000, 20), ("stand", 100, 200),
-        ("quiet", 150, 200)];
+        ("quiet", 150, 200), ("pairs", 250, 100)];
     for (kind, size, seeds) in kinds {
         for seed in 1..=seeds {
             let (card, bytes) = make_ride(kind, seed, size).unwrap();
@@ -253,7 +253,7 @@ fn in_its_place(checks: &mut Checks) {
             let samples: Vec<(bool, Sample)> = recording.samples.iter().map(|sample| {
                 (sample.beacon == QUIET || rng.chance(chance), *sample)
             }).collect();
-            let session = Session::open(card::read(2, &card).unwrap(), recording.train).unwrap();
+            let session = ride::open(&card, &bytes).unwrap().0;
             beside_0(checks, &format!("{kind} {seed}"), session, &samples, &mut met);
         }
     }

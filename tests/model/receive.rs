@@ -22,10 +22,10 @@ impl fmt::Display for Status {
     }
 }
 
-/// The settings until byte 5 has named the train, the session from there on.
+/// The version and the settings until byte 5 has named the train, the session from there on.
 #[derive(Clone, Debug)]
 pub enum Desk {
-    Settings(Settings),
+    Settings(u8, Settings),
     Session(Session),
 }
 
@@ -54,11 +54,11 @@ fn is_length(length: usize) -> bool {
 }
 
 impl Receiver {
-    /// "The card is judged when the receiver starts, before any byte" (a11).
+    /// "The card is judged when the receiver starts, before any byte (5; from g 2, 5 ..)" (a11).
     pub fn start(area: &[u8]) -> Result<Receiver, u8> {
-        match card::read(2, area) {
-            Ok(settings) => {
-                let desk = Desk::Settings(settings);
+        match card::version_and_settings(area) {
+            Ok((version, settings)) => {
+                let desk = Desk::Settings(version, settings);
                 Ok(Receiver { desk, stated: 0, taken: 0, held: Vec::new(), status: Status::Open })
             }
             Err(refusal) => Err(refusal.number),
@@ -126,8 +126,8 @@ impl Receiver {
             4 if byte != 1 => return Err(14),
             // "7 is certain at byte 5." (a3)
             5 => {
-                if let Desk::Settings(settings) = self.desk {
-                    self.desk = Desk::Session(Session::open(settings, byte).map_err(|refusal| refusal.number)?);
+                if let Desk::Settings(version, settings) = self.desk {
+                    self.desk = Desk::Session(Session::open(version, settings, byte).map_err(|refusal| refusal.number)?);
                 }
                 self.taken += 1;
                 self.held.clear();

@@ -185,7 +185,7 @@ fn bad_twice(checks: &mut Checks) {
 /// "The card is judged when the receiver starts, before any byte" (a11).
 fn cards(checks: &mut Checks) {
     let mut bad: Vec<(Vec<u8>, u8)> = vec![(Vec::new(), 1), (unhex("0027"), 1), (unhex(CARD_A)[..38].to_vec(), 1)];
-    for (place, value, number) in [(2, 0, 2), (2, 3, 3), (1, 38, 4), (3, 79, 5), (38, 0, 5)] {
+    for (place, value, number) in [(2, 0, 2), (2, 4, 3), (2, 3, 4), (1, 38, 4), (3, 79, 5), (38, 0, 5)] {
         let mut card = unhex(CARD_A);
         card[place] = value;
         bad.push((card, number));
@@ -270,13 +270,13 @@ fn by_seed(checks: &mut Checks) {
         let at_once = text(&[60_013]);
         let some = [rng.within(0, 9), rng.within(0, 9), rng.within(1, 9)].map(|length| length as usize);
         checks.equal(case, (text(&[1]), text(&some)), (at_once.clone(), at_once.clone()));
-        if card::read(2, &card).is_err() || ride::recording(&bytes).is_ok() {
+        if card::read(card::HIGHEST, &card).is_err() || ride::recording(&bytes).is_ok() {
             same_as_whole += 1;
             let mut whole = Vec::new();
             ride::print(&card, &bytes, ride::More::No, &mut whole).unwrap();
             checks.equal(case, at_once.as_bytes(), &whole);
         }
-        if card::read(2, &card).is_ok() {
+        if card::read(card::HIGHEST, &card).is_ok() {
             let found = fault(&card, &bytes);
             let wanted = (0..bytes.len()).find_map(|place| Some((place, certain(&card, &bytes[..=place])?)));
             checks.equal(case, found, wanted);

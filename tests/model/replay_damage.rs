@@ -166,10 +166,10 @@ pub fn fields(rng: &mut Rng) -> Case {
     let tick = ride.session.settings.tick;
     let at = rng.within(0, ride.n() as i64 - 1) as u64;
     let sample = &mut ride.samples[at as usize];
-    match rng.within(0, 5) {
+    match rng.within(0, 7) {
         0 => sample.beacon = rng.pick(&[12, 13]),
-        1 => sample.buttons = rng.pick(&[2047, 2047, 2048]),
-        2 | 3 => sample.pulses = (100_000 / tick as u32 + rng.pick(&[0, 0, 1])) as u16,
+        1 | 6 => sample.buttons = rng.pick(&[2047, 2047, 2048]),
+        2 | 3 | 7 => sample.pulses = (100_000 / tick as u32 + rng.pick(&[0, 0, 1])) as u16,
         _ => bend_sample(rng, sample, tick),
     }
     let middle = rng.pick(&[0, at, at + 1]);

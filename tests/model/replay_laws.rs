@@ -25,7 +25,7 @@ fn all_of(session: &Session) -> String {
 
 /// The last answer of a quota of k from place 0 is line k of the whole ride, and the session is the one behind that line.
 fn as_the_whole_ride(checks: &mut Checks) {
-    for kind in ["random", "answers", "drive", "long", "stand", "quiet", "damaged"] {
+    for kind in ["random", "answers", "drive", "long", "stand", "quiet", "pairs", "damaged"] {
         for seed in 1..=12 {
             let (card, bytes) = make_ride(kind, seed, 90).unwrap();
             let Ok((session, samples)) = ride::open(&card, &bytes) else { continue };

@@ -65,7 +65,7 @@ pub fn ride(rng: &mut Rng, shortest: i64) -> Ride {
         session.settings.rows[LIMIT].initial = session.settings.rows[LIMIT].r#final;
         card[7 + 4 * LIMIT] = card[8 + 4 * LIMIT];
     }
-    let kind = rng.pick(&["random", "answers", "answers", "drive", "stand", "quiet", "long"]);
+    let kind = rng.pick(&["random", "answers", "answers", "answers", "drive", "stand", "quiet", "long", "pairs"]);
     let most = rng.pick(&[1, 3, 8, 24, 60, 60]).max(shortest);
     let n = rng.within(shortest, most) as usize;
     let seed = rng.next();

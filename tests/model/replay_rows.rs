@@ -7,7 +7,7 @@ use crate::ride;
 use std::collections::BTreeMap;
 
 /// Those of the samples' refusals follow, each number at each spot.
-const ROWS: [&str; 116] = [
+const ROWS: [&str; 118] = [
     "card refused 1", "card refused 2", "card refused 3", "card refused 4", "card refused 5",
     "TYPE refused 7", "TYPE refused 7, a recording that is 14", "the fastest TYPE that is allowed", "digits in capitals",
     "14, fewer than 6 bytes", "14, shorter than stated", "14, shorter by whole samples", "14, longer than stated",
@@ -32,7 +32,7 @@ const ROWS: [&str; 116] = [
     "begins with a main window", "begins with the zone's window", "begins with a side window", "begins where one is missed",
     "begins with beacon 3's option", "begins braked", "begins with stop", "begins with stop alongside", "begins in BTS",
     "begins with override armed", "begins with a reminder", "begins with a crossing", "begins with a limit",
-    "begins with steps", "begins behind pulses", "begins at 1 to 9 without pulses", "begins behind a 12",
+    "begins with steps", "begins with a paired limit", "begins with the first of a pair", "begins behind pulses", "begins at 1 to 9 without pulses", "begins behind a 12",
     "begins with the last beacon again", "begins with another beacon than the last",
     "in two and as one", "in two and as one, in the middle", "in two and as one, first ran none",
     "in two and as one, second ran none", "in two and as one, neither", "in two and as one, sum above 2^64",

@@ -109,6 +109,8 @@ impl<'a> Call<'a> {
         row(session.crossing.is_some(), "begins with a crossing");
         row(session.limit.is_some(), "begins with a limit");
         row(session.limit.is_some_and(|limit| limit.steps > 0), "begins with steps");
+        row(!session.paired_standing().is_empty(), "begins with a paired limit");
+        row(session.first.is_some(), "begins with the first of a pair");
         row(session.stood == 0, "begins behind pulses");
         row((1..STANDING).contains(&session.stood), "begins at 1 to 9 without pulses");
         row(session.quiet(), "begins behind a 12");

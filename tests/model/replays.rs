@@ -41,10 +41,10 @@ pub fn written(case: &Case) -> String {
     format!("{:02x} {:02x} {card} {recording} {}", case.train, case.steps, calls.join(","))
 }
 
-/// The card is read (highest 2) and a session opened on it for this train type, not the recording's.
+/// The card is read (highest 3) and a session opened on it for this train type, not the recording's.
 pub fn opened(card: &[u8], train: u8) -> Result<Session, u8> {
-    let settings = card::read(2, card).map_err(|refusal| refusal.number)?;
-    Session::open(settings, train).map_err(|refusal| refusal.number)
+    let (version, settings) = card::version_and_settings(card).map_err(|refusal| refusal.number)?;
+    Session::open(version, settings, train).map_err(|refusal| refusal.number)
 }
 
 /// The session of a case: its limit's steps are as said, all else is as opened.

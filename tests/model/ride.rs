@@ -2,6 +2,7 @@
 
 use crate::card;
 use crate::desk::{Answer, Main, Reminder, Sample, Session, BTS, CAUSE_TOP};
+use crate::pairs_rows;
 use crate::quiet;
 use crate::stand;
 use crate::why_rows;
@@ -49,15 +50,15 @@ pub fn recorded(train: u8, samples: &[Sample]) -> Vec<u8> {
     bytes
 }
 
-/// The card (highest 2), then "a ride 14, 7": its session and its samples, or the refusal.
+/// The card (highest 3, g6), then "a ride 14, 7": its session and its samples, or the refusal.
 pub fn open(card: &[u8], bytes: &[u8]) -> Result<(Session, Vec<Sample>), u8> {
-    let settings = card::read(2, card).map_err(|refusal| refusal.number)?;
+    let (version, settings) = card::version_and_settings(card).map_err(|refusal| refusal.number)?;
     let recording = recording(bytes)?;
-    let session = Session::open(settings, recording.train).map_err(|refusal| refusal.number)?;
+    let session = Session::open(version, settings, recording.train).map_err(|refusal| refusal.number)?;
     Ok((session, recording.samples))
 }
 
-/// The card (highest 2), then "a ride 14, 7, its samples". Calls back with each accepted sample's session and answer;
+/// The card (highest 3, g6), then "a ride 14, 7, its samples". Calls back with each accepted sample's session and answer;
 /// gives the refusal that ended the ride, if any.
 pub fn ride(card: &[u8], bytes: &[u8], mut each: impl FnMut(&Session, Answer)) -> Option<u8> {
     each_sample(card, bytes, |session, _, result| {
@@ -92,7 +93,7 @@ pub enum More {
     Answer,
 }
 
-/// "prints the heading, then reads the card (highest 2) from a file and the ride from standard input"; "A refusal
+/// "prints the heading, then reads the card (highest 2; from g on 3, g6) from a file and the ride from standard input"; "A refusal
 /// prints the line `refused` and its number, and ends it." "The heading is then `n limit lamps cause reason` ...; refusal lines
 /// are unchanged." (f9)
 pub fn print(card: &[u8], bytes: &[u8], more: More, out: &mut impl Write) -> std::io::Result<()> {
@@ -122,7 +123,7 @@ pub fn ending(end: Option<u8>) -> String {
 
 /// What a ride met, by key. "arose" counts samples in which a cause arose, "stood" samples in which it began to stand;
 /// "steps" counts samples with a standing limit of that many steps. The keys of standstill are stand.rs's, those of the
-/// quiet pickup quiet.rs's, those of the reason and the brake's age why_rows.rs's.
+/// quiet pickup quiet.rs's, those of the reason and the brake's age why_rows.rs's, those of pairs pairs_rows.rs's.
 pub fn cover(card: &[u8], bytes: &[u8]) -> BTreeMap<String, u64> {
     let mut counts: BTreeMap<String, u64> = BTreeMap::new();
     let mut last_code = 0;
@@ -130,6 +131,7 @@ pub fn cover(card: &[u8], bytes: &[u8]) -> BTreeMap<String, u64> {
     let mut of_standstill = stand::Meter::new();
     let mut of_quiet = quiet::Meter::new();
     let mut of_why = why_rows::Meter::new();
+    let mut of_pairs = pairs_rows::Meter::new();
     let mut meets = |key: String| *counts.entry(key).or_insert(0) += 1;
     let end = each_sample(card, bytes, |session, sample, result| {
         let mut met = Vec::new();
@@ -137,6 +139,7 @@ pub fn cover(card: &[u8], bytes: &[u8]) -> BTreeMap<String, u64> {
         of_quiet.meet(session, sample, result, &mut met);
         if result.is_ok() {
             of_why.meet(session, sample, &mut met);
+            of_pairs.meet(session, sample, &mut met);
         }
         met.into_iter().for_each(&mut meets);
         let Ok(answer) = result else { return };

@@ -145,7 +145,7 @@ fn nothing_else(checks: &mut Checks) {
 fn crawling(checks: &mut Checks) {
     let settings = Settings { tick: 1000, ..card::read(2, &unhex(CARD_A)).unwrap() };
     for (zeros, stands) in [(3, false), (8, false), (9, false), (10, true)] {
-        let mut session = Session::open(settings, 6).unwrap();
+        let mut session = Session::open(1, settings, 6).unwrap();
         checks.equal("braked", run(&mut session, "1/8").pop().unwrap().map(|answer| answer.cause), Ok(4));
         let mut lit = false;
         for _ in 0..20 {
@@ -181,7 +181,7 @@ fn top(checks: &mut Checks) {
 fn from_the_history(checks: &mut Checks) {
     let (mut changed, mut refused, mut rearmed, mut too_early) = (0, 0, 0, 0);
     let kinds = [("random", 400, 40), ("answers", 800, 40), ("drive", 800, 40), ("long", 2000, 20), ("stand", 100, 120),
-        ("quiet", 150, 80)];
+        ("quiet", 150, 80), ("pairs", 250, 80)];
     for (kind, size, seeds) in kinds {
         for seed in 1..=seeds {
             let (card, bytes) = make_ride(kind, seed, size).unwrap();

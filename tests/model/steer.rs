@@ -2,12 +2,12 @@
 
 use crate::card::Settings;
 use crate::damage;
-use crate::desk::{train_speed, Main, Reminder, Sample, Session, Window, METRE, QUIET, STANDING};
+use crate::desk::{train_speed, Reminder, Sample, Session, QUIET, STANDING};
 use crate::kinds::Goal;
 use crate::make::{card_bytes, good_settings, Rng};
+use crate::pairs_kind::{near_pairs, Act};
 use crate::ride::recorded;
 use crate::why_kind::{equal_speeds, Step};
-use crate::windows::waits_for;
 
 /// How the train runs against S.
 #[derive(Clone, Copy)]
@@ -27,11 +27,11 @@ pub enum Pace {
 
 /// How the driver answers: chances in percent.
 #[derive(Clone, Copy)]
-struct Care {
-    asleep: i64,
-    at_an_end: i64,
-    wrong: i64,
-    reminded: i64,
+pub struct Care {
+    pub asleep: i64,
+    pub at_an_end: i64,
+    pub wrong: i64,
+    pub reminded: i64,
 }
 
 /// How often the pickup goes quiet: in ten thousand samples, and, in percent, behind a beacon, with a mode change, and where
@@ -48,9 +48,9 @@ pub struct Fails {
 pub struct Driver {
     pub rng: Rng,
     pub session: Session,
-    samples: Vec<Sample>,
-    presses: Vec<(usize, u16)>,
-    care: Care,
+    pub samples: Vec<Sample>,
+    pub presses: Vec<(usize, u16)>,
+    pub care: Care,
     pub fails: Fails,
     /// The samples for which the pickup stays quiet, and the code that it heard before.
     quiet_left: i64,
@@ -68,6 +68,7 @@ pub struct Driver {
     pub goal_left: i64,
     pub next_beacon: i64,
     pub plays: Vec<Step>,
+    pub acts: Vec<Act>,
 }
 
 /// A card's bytes and a recording's, by kind.
@@ -85,7 +86,7 @@ pub fn make_ride(kind: &str, seed: u64, samples: u64) -> Option<(Vec<u8>, Vec<u8
 pub fn fresh(rng: &mut Rng, kind: &str) -> (Vec<u8>, Session) {
     let (mut version, mut settings) = good_settings(rng);
     if kind == "long" && rng.chance(75) {
-        version = 2;
+        version = version.max(2);
         settings.functions = 15;
         settings.x = rng.pick(&[2, 3, 20, 51, 120, 200]);
         settings.y = rng.pick(&[3, 40, 100, 500, 2000]);
@@ -94,15 +95,18 @@ pub fn fresh(rng: &mut Rng, kind: &str) -> (Vec<u8>, Session) {
         settings.tick = 1000;
     }
     if kind == "why" {
-        version = 2;
+        version = version.max(2);
         equal_speeds(rng, &mut settings);
+    }
+    if kind == "pairs" {
+        version = near_pairs(rng, &mut settings);
     }
     let mut card = card_bytes(rng, version, &settings);
     if rng.chance(10) {
         card.extend([0xff; 7]);
     }
     let train = train_for(rng, &settings);
-    (card, Session::open(settings, train).unwrap())
+    (card, Session::open(version, settings, train).unwrap())
 }
 
 /// A train type that refusal 7 allows.
@@ -115,8 +119,9 @@ pub fn train_for(rng: &mut Rng, settings: &Settings) -> u8 {
 pub fn run(mut rng: Rng, session: Session, kind: &str, samples: usize) -> Option<Vec<Sample>> {
     let care = match kind {
         "answers" => Care { asleep: 15, at_an_end: 40, wrong: 15, reminded: 65 },
+        "long" => Care { asleep: 4, at_an_end: 6, wrong: 4, reminded: 80 },
         "quiet" => Care { asleep: 60, at_an_end: 20, wrong: 10, reminded: 20 },
-        "why" => Care { asleep: 70, at_an_end: 10, wrong: 5, reminded: 65 },
+        "why" | "pairs" => Care { asleep: 70, at_an_end: 10, wrong: 5, reminded: 65 },
         _ => Care { asleep: 4, at_an_end: 6, wrong: 4, reminded: 65 },
     };
     let fails = match kind {
@@ -136,7 +141,7 @@ pub fn run(mut rng: Rng, session: Session, kind: &str, samples: usize) -> Option
     let mut driver = Driver {
         rng, session, samples: Vec::new(), presses: Vec::new(), care, fails, quiet_left: 0, before_quiet: 0,
         pace: Pace::Stand, pace_left, held: Pace::Stand, mode_at, last_try, goal: Goal::Signals, goal_left: 100,
-        next_beacon: 5, plays: Vec::new(),
+        next_beacon: 5, plays: Vec::new(), acts: Vec::new(),
     };
     if kind == "quiet" && driver.session.settings.function(2) && driver.rng.chance(40) {
         driver.after_a_reminder();
@@ -150,6 +155,7 @@ pub fn run(mut rng: Rng, session: Session, kind: &str, samples: usize) -> Option
             "stand" => driver.stand_sample(),
             "quiet" => driver.quiet_sample(),
             "why" => driver.why_sample(),
+            "pairs" => driver.pairs_sample(),
             _ => return None,
         };
         if !accepted {
@@ -325,99 +331,6 @@ impl Driver {
             || (beacon && self.rng.chance(self.fails.beacon))
             || (mode != self.session.mode && self.rng.chance(self.fails.mode))
             || self.rng.within(0, 9_999) < self.fails.anywhere
-    }
-
-    /// Pulses that meet an end exactly or miss it by one: a distance about to be reached, the limit's final value,
-    /// 5 km/h while X counts.
-    fn aim(&mut self, sample: &mut Sample) {
-        let tick = self.tick();
-        let m = sample.pulses as i64 * tick;
-        let mut to_go = Vec::new();
-        if let Some(crossing) = self.session.crossing {
-            to_go.push(1_800 * METRE - crossing.distance);
-            if crossing.protected && self.rng.chance(4) {
-                sample.pulses = (11_112 / tick + self.rng.within(0, 1)) as u16;
-            }
-            let to_35 = 35 * METRE - crossing.distance;
-            if crossing.protected && (11_200..45_000).contains(&to_35) {
-                to_go.push(to_35);
-            }
-        }
-        match self.session.reminder {
-            Reminder::Waits => to_go.push(200 * METRE - self.session.main_distance),
-            Reminder::Pressed { distance, .. } => {
-                to_go.push(self.session.settings.y as i64 * METRE - distance);
-                if self.rng.chance(8) {
-                    sample.pulses = ((1_389 / tick) - self.rng.within(0, 1) + self.rng.within(0, 1)).max(0) as u16;
-                }
-            }
-            _ => {}
-        }
-        for rest in to_go {
-            if rest > 0 && rest <= (m + tick).max(20_000) && self.rng.chance(50) {
-                sample.pulses = (rest / tick - self.rng.pick(&[0, 0, 1])).clamp(0, 100_000 / tick) as u16;
-            }
-        }
-        if let Some(limit) = self.session.limit {
-            if self.rng.chance(5) {
-                sample.pulses = (25 * self.session.limit_final(limit) / 9 / tick + self.rng.within(0, 1)) as u16;
-            }
-        }
-    }
-
-    fn press_in(&mut self, samples: i64, mask: u16) {
-        self.presses.push((self.samples.len() + samples as usize - 1, mask));
-    }
-
-    /// Schedules presses for what this sample has started.
-    fn plan(&mut self) {
-        let (main, side) = (self.session.main_window, self.session.side_window);
-        for window in main.iter().chain(side.iter()) {
-            if window.age == 0 {
-                self.plan_answer(*window);
-            }
-        }
-        if self.session.offer.is_some_and(|offer| offer.age == 0) && self.rng.chance(50) {
-            let age = if self.rng.chance(30) { self.rng.pick(&[1, 28, 29, 30]) } else { self.rng.within(1, 29) };
-            self.press_in(age, 32);
-        }
-        if let Reminder::Lit { age: 0, .. } = self.session.reminder {
-            let age = if self.rng.chance(25) { self.rng.pick(&[1, 48, 49, 50, 51]) } else { self.rng.within(1, 49) };
-            if self.rng.chance(self.care.reminded) {
-                self.press_in(age, 128);
-            }
-        }
-        if self.session.main == Main::Stop && self.session.main_age == 0 && self.rng.chance(60) {
-            let age = if self.rng.chance(30) { self.rng.pick(&[1, 98, 99, 100]) } else { self.rng.within(1, 99) };
-            self.press_in(age, 256);
-        }
-        if let Some(limit) = self.session.limit {
-            let (step, other) = if self.session.limit_at_final(limit) { (8, 2) } else { (1, 1) };
-            if self.rng.chance(step) {
-                self.press_in(1, 256);
-            }
-            if self.rng.chance(other) {
-                let mask = self.rng.pick(&[64, 512, 512]);
-                self.press_in(1, mask);
-            }
-        }
-    }
-
-    fn plan_answer(&mut self, window: Window) {
-        if self.rng.chance(if window.left > 30 && !window.zone { 50 } else { self.care.asleep }) {
-            return;
-        }
-        let at_an_end = self.rng.chance(self.care.at_an_end);
-        let age = match (window.zone, at_an_end) {
-            (true, true) => self.rng.pick(&[9, 10, 11, 38, 39, 40, 41]),
-            (true, false) => self.rng.within(10, 39),
-            (false, true) => self.rng.pick(&[1, 28, 29, 30, 31]),
-            (false, false) => self.rng.within(1, 29),
-        };
-        let right = 1 << self.rng.pick(waits_for(window.beacon));
-        let wrong = 1 << self.rng.within(0, 10);
-        let mask = if self.rng.chance(self.care.wrong) { self.rng.pick(&[wrong, wrong | right]) } else { right };
-        self.press_in(age, mask);
     }
 
     /// A new pace now and then.

@@ -26,7 +26,7 @@ impl Session {
     /// The limits that stand at the sample's end, in 02's order; "its value and age (0 for the first three)". "3 stands in BTS
     /// only, 4 neither there nor under clear." (f2) "Main's age is its row's ... a 1 answered, missed or displaced, stop and zone
     /// have their reading's." (f3) "Alongside has its own age" (f4); crossing "the reading's", and 0 at a turn (f5); limit "its
-    /// row's" (f6).
+    /// row's" (f6). "of equal ones the single is named" (02 g): it stands before the paired ones (g25).
     pub fn standing(&self) -> Vec<Standing> {
         let of = |reason, value, age| Standing { reason, value, age };
         let mut standing = vec![of(VMAX, 100 * self.settings.vmax as i64, 0), of(TRAIN, 100 * self.t(), 0)];
@@ -37,6 +37,7 @@ impl Session {
         standing.extend(self.alongside.map(|alongside| of(ALONGSIDE, alongside.value, alongside.age)));
         standing.extend(self.crossing.map(|crossing| of(CROSSING, self.crossing_value(crossing), crossing.age)));
         standing.extend(self.limit.map(|limit| of(LIMIT, self.limit_value(limit), limit.age)));
+        standing.extend(self.paired_standing().into_iter().map(|(_, value, age)| of(LIMIT, value, age)));
         standing
     }
 
@@ -56,8 +57,14 @@ impl Session {
             ALONGSIDE => "stop alongside",
             CROSSING if self.crossing.is_some_and(|crossing| crossing.protected) => "protected crossing",
             CROSSING => "unprotected crossing",
-            _ => "limit",
+            _ if self.names_single() => "limit",
+            _ => "paired limit",
         }
+    }
+
+    /// "reason 7, the single's age if it equals S, else the paired one's" (g25).
+    pub fn names_single(&self) -> bool {
+        self.limit.is_some_and(|limit| self.limit_value(limit) == self.s)
     }
 
     fn main_name(&self) -> &'static str {

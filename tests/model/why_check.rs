@@ -54,7 +54,7 @@ fn flat(card: &str, rows: &[(usize, u8)]) -> Settings {
 }
 
 fn on_these(settings: Settings, train: u8) -> Session {
-    Session::open(settings, train).unwrap()
+    Session::open(2, settings, train).unwrap()
 }
 
 /// "3 stands in BTS only, 4 neither there nor under clear. vmax is named only when T = vmax." (f2)
@@ -238,6 +238,9 @@ fn brake_top(checks: &mut Checks) {
     }
 }
 
+/// 30, 40, 50 and 70 km/h, below every train's T.
+const PAIRED: [i64; 4] = [3000, 4000, 5000, 7000];
+
 /// The value of a limit that stands, looked up by its number.
 fn value(session: &Session, reason: u8) -> Option<i64> {
     match (reason, session.main) {
@@ -250,7 +253,12 @@ fn value(session: &Session, reason: u8) -> Option<i64> {
         (4, Main::Zone) => Some(1000),
         (5, _) => session.alongside.map(|alongside| alongside.value),
         (6, _) => session.crossing.map(|crossing| session.crossing_value(crossing)),
-        (7, _) => session.limit.map(|limit| session.limit_value(limit)),
+        (7, _) => {
+            // The least of the single and of the paired ones that stand.
+            let single = session.limit.map(|limit| session.limit_value(limit));
+            let paired = PAIRED.iter().zip(session.paired).filter_map(|(value, age)| age.map(|_| *value));
+            paired.chain(single).min()
+        }
         _ => None,
     }
 }
@@ -261,7 +269,10 @@ fn age(session: &Session, reason: u8) -> i64 {
         4 => session.main_age,
         5 => session.alongside.unwrap().age,
         6 => session.crossing.unwrap().age,
-        7 => session.limit.unwrap().age,
+        7 => match session.limit {
+            Some(limit) if session.limit_value(limit) == session.s => limit.age,
+            _ => PAIRED.iter().zip(session.paired).find(|(value, _)| **value == session.s).unwrap().1.unwrap(),
+        },
         _ => 0,
     }
 }
@@ -271,7 +282,7 @@ fn age(session: &Session, reason: u8) -> i64 {
 fn by_seed(checks: &mut Checks) {
     let mut named = [0; 8];
     let kinds = [("random", 400, 80), ("answers", 800, 80), ("drive", 800, 60), ("long", 2000, 20), ("stand", 100, 200),
-        ("quiet", 150, 200), ("why", 400, 80)];
+        ("quiet", 150, 200), ("why", 400, 80), ("pairs", 250, 200)];
     for (kind, size, seeds) in kinds {
         for seed in 1..=seeds {
             let (card, bytes) = make_ride(kind, seed, size).unwrap();

@@ -119,7 +119,7 @@ impl Driver {
         let other = self.rng.pick(&[1, 2, 3, 5, 6, 7]);
         let main_button = self.rng.pick(&[1, 2, 4]);
         let side_button = self.rng.pick(&[CROSSING_BUTTON, LIMIT_BUTTON]);
-        match self.rng.pick(&[0, 0, 0, 1, 1, 1, 1, 1, 2, 2, 2, 2, 2, 3, 3, 3, 3, 3, 3, 4, 4, 5, 6, 6, 7, 8, 8, 9, 9, 10]) {
+        match self.rng.pick(&[0, 0, 0, 1, 1, 1, 1, 1, 2, 2, 2, 2, 2, 3, 3, 3, 3, 3, 3, 4, 4, 5, 6, 6, 7, 7, 8, 8, 9, 9, 10]) {
             // A 9 or a 1 answered or missed, and again; a 1 displaced by a 1.
             0 => vec![(0, 3, 0), (soon, 9, 0), (soon, 0, side_button), (soon, 9, 0), (31, 0, 0)],
             1 => vec![(0, 3, 0), (soon, 9, 0), (31, 9, 0), (soon, 0, side_button)],

@@ -23,7 +23,7 @@ fn settings(card: &str) -> Settings {
 }
 
 fn on_these(settings: Settings, train: u8) -> Session {
-    Session::open(settings, train).unwrap()
+    Session::open(2, settings, train).unwrap()
 }
 
 /// What is said in words behind a ride.

@@ -142,9 +142,10 @@ impl Seen<'_> {
         crossing.age == stood.age + 1 && crossing.distance != stood.distance + self.session.m
     }
 
-    /// "repeat, steps, an answered 10 do not touch it" (f6).
+    /// "repeat, steps, an answered 10 do not touch it" (f6). Those of a paired limit are pairs_rows.rs's.
     fn limit(&self) -> Vec<&'static str> {
-        let (Some(limit), LIMIT) = (self.session.limit, self.why.reason) else { return Vec::new() };
+        let single = self.session.limit.filter(|_| self.session.names_single());
+        let (Some(limit), LIMIT) = (single, self.why.reason) else { return Vec::new() };
         let same_mode = self.session.mode == self.before.mode;
         let stood = self.before.limit.filter(|stood| limit.age == stood.age + 1 && same_mode);
         let closed = self.before.side_window.filter(|_| self.session.side_window.is_none() && !self.session.arisen.contains(&2));

@@ -68,7 +68,7 @@ fn braked(rng: &mut Rng) -> (u8, u16) {
 
 /// A card and the session that it opens, with this brake.
 fn begun(rng: &mut Rng, brake: (u8, u16)) -> (Vec<u8>, Session) {
-    let kind = rng.pick(&["random", "stand", "why", "why"]);
+    let kind = rng.pick(&["random", "stand", "why", "why", "pairs"]);
     let (card, session) = fresh(rng, kind);
     (card, Session { cause: brake.0, brake_age: brake.1 as i64, ..session })
 }
@@ -80,7 +80,7 @@ fn case(card: Vec<u8>, session: &Session, brake: (u8, u16), samples: &[Sample]) 
 
 /// A ride of any kind from that session; it may end with a sample that is refused.
 fn ride_from(rng: &mut Rng, session: &Session) -> Vec<Sample> {
-    let kind = rng.pick(&["random", "answers", "answers", "drive", "stand", "quiet", "why", "why"]);
+    let kind = rng.pick(&["random", "answers", "answers", "drive", "stand", "quiet", "why", "why", "pairs", "pairs"]);
     let n = rng.pick(&[1, 3, 8, 24, 60, 60]);
     let seed = rng.next();
     run(Rng::new(kind, seed), session.clone(), kind, n).unwrap()

@@ -1,10 +1,11 @@
 //! What a batch of reasons meets: both sides of f7 and f8 where no ride shows them, and each reason.
 
 use crate::desk::{train_speed, Sample, Session, AGE_TOP, BTS, CAUSE_TOP, STANDING};
+use crate::why::LIMIT;
 use crate::whys::{case_in, samples_of, start, Case};
 use std::collections::BTreeMap;
 
-const ROWS: [&str; 68] = [
+const ROWS: [&str; 69] = [
     "card refused 1", "card refused 2", "card refused 3", "card refused 4", "card refused 5", "TYPE refused 7",
     "TYPE refused 7, CAUSE 7", "the fastest TYPE that is allowed", "digits in capitals", "no samples",
     "bytes behind the last sample", "bytes, and no whole sample",
@@ -22,7 +23,7 @@ const ROWS: [&str; 68] = [
     "rearm with pulses, goes on", "rearm up to 9, goes on", "rearm with a fresh cause, goes on", "comes on again behind a rearm",
     "a lower cause later, goes on", "the same cause later, goes on", "a higher cause later, goes on",
     "unbraked, 0 and 0",
-    "reason 1", "reason 2", "reason 3", "reason 4", "reason 5", "reason 6", "reason 7",
+    "reason 1", "reason 2", "reason 3", "reason 4", "reason 5", "reason 6", "reason 7", "reason 7, a paired limit",
 ];
 
 /// How often a batch meets each row.
@@ -99,6 +100,9 @@ fn meet_samples(mut session: Session, samples: Vec<Sample>, met: &mut Vec<String
             continue;
         }
         met.push(format!("reason {}", session.why().reason));
+        if session.why().reason == LIMIT && !session.names_single() {
+            met.push("reason 7, a paired limit".into());
+        }
         match (before.cause, session.cause) {
             (0, 0) if before.brake_age > 0 => met.push("CAUSE 0, SINCE above 0, stays off".into()),
             (0, 0) => met.push("unbraked, 0 and 0".into()),

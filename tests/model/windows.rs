@@ -66,7 +66,7 @@ impl Session {
                 1 => self.set_main(Main::Row(PREANNOUNCEMENT), window.age, window.distance),
                 2 => self.set_main(Main::Row(CAUTION), window.age, window.distance),
                 5 => self.set_unprotected(window.age, window.distance),
-                _ => self.set_limit(window.age),
+                _ => self.set_limit(window.age, true),
             }
         }
         true
@@ -82,7 +82,7 @@ impl Session {
         if window.beacon == 9 {
             match button {
                 5 => self.set_unprotected(window.age, window.distance),
-                _ => self.set_limit(window.age),
+                _ => self.set_limit(window.age, true),
             }
         }
         true
@@ -170,14 +170,16 @@ impl Session {
         self.settings.function(1) && self.main == Main::Row(BEFORE_STOP) && self.main_distance < 80 * METRE
     }
 
-    /// The side window's readings: a displaced 9 counts before the new reading acts; 10 and 11 set limit at once.
+    /// The side window's readings: a displaced 9 counts before the new reading acts; 10 and 11 set limit at once, or make a pair. "The
+    /// second waits for 6 too: in an open side window's place, to that one's miss (a displaced 9 counts), else in a fresh window"
+    /// (g14).
     pub fn read_side(&mut self, code: u8) {
         let displaced = self.side_window.take();
         if let Some(window) = displaced {
             self.count_as_unprotected(window);
         }
         if code == 10 || code == 11 {
-            self.set_limit(0);
+            self.read_limit_beacon(code);
         }
         let left = displaced.map_or(MISS, |window| window.left);
         self.side_window = Some(Window { beacon: code, age: 0, distance: 0, left, zone: false });
