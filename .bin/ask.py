@@ -18,13 +18,13 @@ line is `refused` and the number, and standard error has it in words.""",
 Says why the supervised speed is what it is: under a heading a line a sample, with its number, the supervised speed in hundredths of km/h,
 which limit sets it, that limit's age, the cause of the brake (0: off), and how many samples ago the brake came on. A sample is 0.1 s. The
 limits are 1 vmax of the card, 2 T of the train type, 3 BTS speed, 4 the main control, 5 the stop that stays alongside, 6 the crossing,
-7 the limit; of equal ones the first is named, and 1 to 3 have age 0. With the word `words` the same is said in words, with no heading,
-in km/h and seconds: of the first sample, and of those where another limit is named or the cause is another. Where the ride is refused the
-last line is `refused` and the number, and standard error has it in words.""",
+7 the limit, single or paired; of equal ones the first is named, the single limit before a paired one, and 1 to 3 have age 0. With the word
+`words` the same is said in words, with no heading, in km/h and seconds: of the first sample, and of those where another limit is named or
+the cause is another. Where the ride is refused the last line is `refused` and the number, and standard error has it in words.""",
     "trace": """usage: ./trace CARD < RECORDING
 
-Prints the ride as ./ride does, with two more columns: the crossing icon (0 none, 1 protected, 2 unprotected) and whether the limit
-stands (0, 1).""",
+Prints the ride as ./ride does, with two more columns: the crossing icon (0 none, 1 protected, 2 unprotected) and whether a limit
+stands, single or paired (0, 1).""",
     "receive": """usage: ./receive CARD [SIZE] < LINE
 
 Prints the ride as ./ride does while its bytes come: each line when its sample is complete, a refusal at the byte that makes it certain.

@@ -5,6 +5,7 @@ import pathlib
 import sys
 from typing import NamedTuple
 
+import pairs
 import plain
 import programs
 import standstill
@@ -38,7 +39,7 @@ REFUSALS = {
     3: "card version above the reader's highest",
     4: "length field is not its version's length",
     5: "setting out of range",
-    6: "reader's highest version not 1 or 2",
+    6: "reader's highest version not 1, 2 or 3",
     7: "train type not 1..8, or faster than vmax",
     8: "session out of its ranges",
     9: "beacon, buttons or mode out of range",
@@ -73,11 +74,14 @@ class Card(NamedTuple):
     vmax: int
     tick: int
     functions: int
+    pair_speeds: dict  # in km/h, by the pair's kind; a card before version 3 has none
+    pair_distance: int  # in metres
 
     @staticmethod
     def of(area):
         version = area[2]
-        return Card(version, area[3], int.from_bytes(area[4:6], "big"), area[39] if version > 1 else 0)
+        speeds, distance = (dict(zip(pairs.KINDS, area[44:48])), area[48]) if version == pairs.VERSION else ({}, 0)
+        return Card(version, area[3], int.from_bytes(area[4:6], "big"), area[39] if version > 1 else 0, speeds, distance)
 
     def speed(self, pulses):
         """In km/h."""
@@ -110,7 +114,7 @@ class Answer(NamedTuple):
 
 class Ride:
     """A recording on a card, and what the desk answers: an answer for each accepted sample, then the number of the refusal or None.
-    A card and samples are there as far as there are answers, and so is whether a sample is at standstill."""
+    A card and samples are there as far as there are answers, and so are whether a sample is at standstill and which pair is made at it."""
 
     def __init__(self, card, recording):
         self.given = card, recording
@@ -122,6 +126,7 @@ class Ride:
         self.kind = recording[HEAD - 1] if len(recording) >= HEAD else None
         self.samples = [Sample.of(recording[at:at + 6]) for at in range(HEAD, len(recording) - 5, 6)]
         self.standstill = [standstill.is_reached(count) for count in standstill.counts(sample.pulses for sample in self.samples)]
+        self.pairs = list(pairs.made(self.readings(), self.card.pair_distance)) if self.card and self.card.pair_speeds else []
 
     def steps(self):
         """Each accepted sample with its answer."""
@@ -141,6 +146,16 @@ class Ride:
         """Is a beacon to which the train comes at sample i read? In BTS only function 3 reads some."""
         now = self.samples[i]
         return now.mode == 1 or bool(self.card.functions & 8) and now.beacon in (4, 9, 10, 11)
+
+    def readings(self):
+        """Of each accepted sample the mode, the travel, and the beacon that is read in it, 0 if none."""
+        for i, (sample, _) in enumerate(self.steps()):
+            yield sample.mode, self.card.travel(sample.pulses), self.passes(i) if self.reads(i) else 0
+
+    def beacon_words(self, i):
+        """What the beacon to which the train comes at sample i is called: by the pair that it makes, else by its own name."""
+        kind = self.pairs[i] if self.pairs else None
+        return f"pair {kind}: {self.card.pair_speeds[kind]} km/h" if kind else BEACONS[self.samples[i].beacon]
 
     def why(self):
         """The refusal in words."""

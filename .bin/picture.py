@@ -11,9 +11,9 @@ from drawing import GROUND, LEFT, LINE, LINES, NET, RIGHT, WIDTH, Drawing, Scale
 USAGE = """usage: ./picture [--distance] [--title TITLE] CARD < RECORDING > ride.svg
 
 Draws a ride as an SVG for a browser or a printer: the train's speed and its limit over time, the band of 5 km/h above the limit, the
-brake with its cause, lamps as bars, marks for presses, beacons and a pickup that goes quiet, the crossing icon and the limit control.
---distance draws over the distance travelled. The title is the lesson's where the recording's file has a lesson's name. A refusal ends
-the drawing."""
+brake with its cause, lamps as bars, marks for presses, beacons and a pickup that goes quiet, the crossing icon and whether a limit
+stands. On a card of version 3 the second beacon of a pair is named by the pair and its speed. --distance draws over the distance
+travelled. The title is the lesson's where the recording's file has a lesson's name. A refusal ends the drawing."""
 
 CHART = 330  # the height of the speeds
 LANE, BAR = 19, 11  # the height of a row below them, and of its bars
@@ -84,12 +84,12 @@ class Picture:
     # ---- beacons, and where the pickup goes quiet, above the speeds
 
     def beacon_marks(self):
-        """Where the train comes to a beacon, and what that is called: with its name, and by number alone. So too where the pickup goes
-        quiet; how long is seen by the lamp of the alarm."""
+        """Where the train comes to a beacon, and what that is called: with its name or the pair that it makes, and by number alone. So too
+        where the pickup goes quiet; how long is seen by the lamp of the alarm."""
         for i in range(len(self.samples)):
             beacon = self.ride.passes(i)
             if beacon:
-                words = f"{beacon} {desk.BEACONS[beacon]}", str(beacon)
+                words = f"{beacon} {self.ride.beacon_words(i)}", str(beacon)
                 yield self.at(i), *(words if self.ride.reads(i) else (f"({said})" for said in words))
             elif self.ride.is_quiet(i) and not self.ride.is_quiet(i - 1):
                 yield self.at(i), "pickup quiet", QUIET_MARK

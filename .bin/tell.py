@@ -12,8 +12,8 @@ USAGE = """usage: ./tell [--title TITLE] CARD < RECORDING
 Tells a ride as a page: a line for each sample at which something changes, with its number and time, the metres travelled with it,
 the train's speed and its limit in km/h, and in words what is pressed and read, lamps, brake, crossing icon and limit. The train stands
 from the tenth sample running without pulses on, and moves from the next pulse on. The pickup is quiet while it hears nothing, not even
-the permanent tone, and back when it hears something. The title is the lesson's where the recording's file has a lesson's name. A refusal
-ends the page."""
+the permanent tone, and back when it hears something. On a card of version 3 a limit beacon that is the second of a pair is told with the
+pair and its speed. The title is the lesson's where the recording's file has a lesson's name. A refusal ends the page."""
 
 HEADING = f"{'n':>5} {'time':>7} {'metres':>8} {'speed':>7} {'limit':>7}   what happens"
 WIDTH = 120
@@ -68,7 +68,7 @@ def driven(ride, i, sample, last):
         yield "pickup quiet" if ride.is_quiet(i) else "pickup back"
     beacon = ride.passes(i)
     if beacon:
-        said = f"beacon {beacon}, {desk.BEACONS[beacon]}"
+        said = f"beacon {beacon}, {ride.beacon_words(i)}"
         yield said if ride.reads(i) else f"{said}, not read in {desk.MODES[sample.mode]}"
 
 
@@ -113,7 +113,8 @@ def about(ride):
     """What the page is about, in two lines."""
     card, count = ride.card, len(ride.answers)
     train = f"Train type {ride.kind}, T {desk.TYPES[ride.kind]} km/h."
-    yield f"Card: version {card.version}, vmax {card.vmax} km/h, {card.tick / 10:.1f} mm a pulse. {train}"
+    paired = f", pairs within {card.pair_distance} m" if card.pair_speeds else ""
+    yield f"Card: version {card.version}, vmax {card.vmax} km/h, {card.tick / 10:.1f} mm a pulse{paired}. {train}"
     travel = sum(card.travel(sample.pulses) for sample, _ in ride.steps())
     samples = "1 sample" if count == 1 else f"{count} samples"
     yield f"{samples}, {desk.duration(count)}, {metres(travel)} m. Speeds in km/h; the limit is the supervised speed."

@@ -12,6 +12,7 @@ import sys
 HERE = pathlib.Path(__file__).resolve().parent
 sys.path.append(str(HERE.parent / ".bin"))
 
+import pairs  # noqa: E402
 import plain  # noqa: E402
 import standstill  # noqa: E402
 
@@ -28,7 +29,7 @@ TYPES = [80, 90, 100, 120, 140, 160, 180, 200]  # km/h, types 1 to 8
 MOST_SAMPLES = 10_000
 MOST_TRAVEL = 100_000  # tenths of a millimetre in a sample
 EXTRA = ("icon", "standing")
-RECORD = {1: 39, 2: 44}  # a card's length by its version
+RECORD = {1: 39, 2: 44, 3: 49}  # a card's length by its version
 ROWS = [
     "conditional clear", "stop announcement", "preannouncement", "caution", "before-stop", "unprotected crossing", "limit", "start",
 ]
@@ -369,35 +370,48 @@ def read_script(path, name, expected=None):
 # ---- what the desk refuses
 
 def settings(card):
-    """The settings of a card as (place, name, value, lowest, highest), by their places."""
+    """The settings of a card as (place, name, value, what is allowed), by their places."""
     data = card.data
-    yield 3, "vmax", card.vmax(), 80, 200
-    yield 4, "tick length", card.tick(), 10, 1000
-    yield 6, "BTS speed", data[6], 1, 200
+    yield 3, "vmax", card.vmax(), span(80, 200)
+    yield 4, "tick length", card.tick(), span(10, 1000)
+    yield 6, "BTS speed", data[6], span(1, 200)
     for row, name in enumerate(ROWS):
         at = 7 + 4 * row
-        yield at, f"{name}, initial", data[at], 1, 200
-        yield at + 1, f"{name}, final", data[at + 1], 1, data[at]
-        yield at + 3, f"{name}, drop", data[at + 3], 1, 255
-    if card.version() == 2:
-        yield 39, "functions", data[39], 0, 15
+        yield at, f"{name}, initial", data[at], span(1, 200)
+        yield at + 1, f"{name}, final", data[at + 1], span(1, data[at])
+        yield at + 3, f"{name}, drop", data[at + 3], span(1, 255)
+    if card.version() > 1:
+        yield 39, "functions", data[39], span(0, 15)
         if data[39] & REMINDER:
-            yield 40, "reminder X", card.number(40), 2, 6000
-            yield 42, "reminder Y", card.number(42), 1, 5000
+            yield 40, "reminder X", card.number(40), span(2, 6000)
+            yield 42, "reminder Y", card.number(42), span(1, 5000)
+    if card.version() == pairs.VERSION:
+        for at, kind in enumerate(pairs.KINDS, 44):
+            yield at, f"pair {kind} speed", data[at], pairs.SPEEDS
+        yield 48, "pair distance", data[48], span(1, pairs.FARTHEST)
+
+
+def span(low, high):
+    return range(low, high + 1)
+
+
+def allowed_words(allowed):
+    """What a setting may be: all from one number to another, or each of some."""
+    return f"{allowed[0]}..{allowed[-1]}" if isinstance(allowed, range) else f"one of {', '.join(map(str, allowed))}"
 
 
 def card_fault(card):
     """What the desk refuses in a card, as (number, sentence), or None."""
     version, length = card.version(), card.number(0)
     if version not in RECORD:
-        return 3 if version else 2, f"card {card.name}: byte 2, version, is {version}, must be 1 or 2"
+        return 3 if version else 2, f"card {card.name}: byte 2, version, is {version}, must be 1, 2 or 3"
     if length != RECORD[version]:
         return 4, f"card {card.name}: byte 0, length, is {length}, must be {RECORD[version]} in version {version}"
     if len(card.data) < length:
         return 1, f"card {card.name} has {len(card.data)} bytes, must have {length}"
-    for place, name, value, low, high in settings(card):
-        if not low <= value <= high:
-            return 5, f"card {card.name}: byte {place}, {name}, is {value}, must be {low}..{high}"
+    for place, name, value, allowed in settings(card):
+        if value not in allowed:
+            return 5, f"card {card.name}: byte {place}, {name}, is {value}, must be {allowed_words(allowed)}"
     return None
 
 
