@@ -11,6 +11,7 @@ pub mod Apart
 pub mod Alike
 pub mod Hushed
 pub mod Unpaired
+pub mod Firstless
 pub mod Cards
 pub mod Lines
 pub mod Prints

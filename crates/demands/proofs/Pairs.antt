@@ -22,6 +22,7 @@ use Rattle.laws.proofs.Ranges.{inside-only}
 use Rattle.laws.proofs.Inside.{inside-laws}
 use Rattle.demands.specs.Unpaired.{outcomes01}
 use Rattle.demands.specs.Pairs.{PairsRequest, PairsExamples}
+use Rattle.demands.proofs.Firstless.{not-before-second}
 use Rattle.demands.proofs.Unpaired.{Unpaired, never-paired, as-before}
 use Rattle.demands.proofs.Computes.{definitions}
 
@@ -53,6 +54,7 @@ pairs-request =
       as-before = before;
       none-stands = stands;
       always-inside = λ card train s xs h. inside-only (after s xs) (inside-laws .always-inside card train s xs h);
+      not-before-second = not-before-second;
     }
 
 pub pairs-examples : PairsExamples

@@ -16,15 +16,21 @@ use Rattle.session.specs.declared.Sample.{Sample}
 use Rattle.session.specs.declared.Session.{Session}
 use Rattle.session.specs.declared.Outcome.{Outcome}
 use Rattle.session.specs.Session.{openSession, refusedBy, carried, sampleOf}
-use Rattle.session.specs.Runs.{after, outcomes}
+use Rattle.session.specs.Runs.{accepted, after, outcomes}
 use Rattle.step.specs.Step.{stepOf}
 use Rattle.step_laws.specs.Pairs.{PairLaws}
 use Rattle.laws.specs.Ranges.{Inside}
 use Rattle.laws.specs.Unanswered.{topOf}
 use Rattle.demands.specs.Runs.{rideOf}
+use Rattle.demands.specs.Speaks.{meetsLimit, meetsSecond}
 use Rattle.demands.specs.Unpaired.{outcomes01}
 use Rattle.demands.specs.Examples.{conv, bts, times, answer, shows, repeated}
 use Rattle.demands.specs.Demand3.{C, CF}
+
+-- no beacon 10 or 11 is read at an accepted sample of these
+abbrev pub NoneRead : Session → List Sample → Type 0
+NoneRead s [] = Unit
+NoneRead s (x ∷ xs) = (accepted s x ≡ true → meetsLimit s x ≡ false) × NoneRead (sampleOf s x .session) xs
 
 pub record PairsRequest : Type 0 where
   -- 1. Of every session and every accepted sample, once over the four speeds: when a paired limit is set, its value, its age, when it may go, which
@@ -40,6 +46,10 @@ pub record PairsRequest : Type 0 where
       → after s xs .desk .beside .paired ≡ nothingPaired
   -- 3. "every session we make is inside", the paired ages and the first's distance included.
   pub always-inside : (card : Card) (train : ℕ) (s : Session) (xs : List Sample) → openSession card train ≡ given s → Inside (after s xs)
+  -- 4. "bytes 44 to 48 at the second": as demand 3 has it they never speak sooner. From opening, where no 10 or 11 has been read, refused samples among
+  -- those before it, a 10 or 11 is no second, whatever sample comes.
+  pub not-before-second : (card : Card) (train : ℕ) (s : Session) (xs : List Sample) → openSession card train ≡ given s → NoneRead s xs
+      → (x : Sample) → meetsSecond (after s xs) x ≡ false
 
 -- ---- both sides of each line, on cards C and CF of the readings, train type 6
 
