@@ -35,7 +35,7 @@ fn card_k() -> [u8; 44] {
 
 // ---- what is written
 
-pub fn refusal(why: Refusal) {
+fn refusal(why: Refusal) {
     let mut line = io::buffer();
     let at = put_refusal(&mut line, 0, why);
     let n = put(&mut line, at, b'\n');
@@ -66,7 +66,7 @@ fn outcome(o: Outcome) {
 // ---- the session
 
 // The session after a sample, whose line is written.
-pub fn after(session: Session, pulses: u16, beacon: u8, buttons: u16, mode: u8) -> Session {
+fn after(session: Session, pulses: u16, beacon: u8, buttons: u16, mode: u8) -> Session {
     let sampled = session.sample(Sample {
         pulses,
         beacon,
@@ -79,7 +79,7 @@ pub fn after(session: Session, pulses: u16, beacon: u8, buttons: u16, mode: u8) 
 }
 
 // The same in CONV with no button pressed; beacon 0 is none.
-pub fn reads(session: Session, pulses: u16, beacon: u8) -> Session {
+fn reads(session: Session, pulses: u16, beacon: u8) -> Session {
     after(session, pulses, beacon, 0, 1)
 }
 

@@ -196,7 +196,7 @@ fn first_counts(session: Session, paired: Session) {
 }
 
 // Card K's session, and the same of version 3 with pairs.
-pub fn cases(session: Session) {
+pub(crate) fn cases(session: Session) {
     let settings = session.card.settings;
     versions(settings);
     opening_order(settings);
