@@ -8,7 +8,7 @@ use lib.ListN.{length, drop, length-append, length-drop}
 use lib.Seq.{drop_at, length-take-le}
 use borrow.Author.Tests.{leb-true}
 use Rattle.leaf.specs.Answers.{Answer, given, refused, refused_at}
-use Rattle.card.specs.Card.{length_of, reminds}
+use Rattle.card.specs.Card.{base_kind, length_of, reminds}
 use Rattle.card.specs.Writing.{pairs_bytes, bytes_of, record_of, write_card, written, leaves}
 use Rattle.card.specs.Laws.{length-bytes_of, length_of-le, done_checks}
 use Rattle.card.specs.Plain.{SettingsMet}
@@ -51,8 +51,8 @@ length_kept v s buffer = cases (write_card v s (length buffer)) (λ h. leb-true 
 -- the writer "zeroes silent bytes": with bit 2 off, bytes 40 to 43 of a version 2 record are 0, and so are those of a version 3 record
 pub silent_zero : (s : Settings) → SettingsMet 2 s → reminds s.functions ≡ false → drop 40 (record_of 2 s) ≡ 0 ∷ 0 ∷ 0 ∷ 0 ∷ []
 unfolding record_of bytes_of
-silent_zero s m e = let z = reminder_zero m e in rw (z.0, z.1)
+silent_zero s m e = let z = reminder_zero base_kind m e in rw (z.0, z.1)
 
 pub silent_zero_3 : (s : Settings) → SettingsMet 3 s → reminds s.functions ≡ false → drop 40 (record_of 3 s) ≡ 0 ∷ 0 ∷ 0 ∷ 0 ∷ pairs_bytes s.pairs
 unfolding record_of bytes_of
-silent_zero_3 s m e = let z = reminder_zero m e in rw (z.0, z.1)
+silent_zero_3 s m e = let z = reminder_zero base_kind m e in rw (z.0, z.1)

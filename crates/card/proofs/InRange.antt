@@ -126,15 +126,15 @@ rebuilt_pairs : (p : Pairs) (a b c d e : ℕ) → a ≡ p.ten_ten → b ≡ p.te
 rebuilt_pairs p a b c d e pa pb pc pd pe = rw (pa, pb, pc, pd, pe)
 
 -- where bit 2 is off, X and Y are 0
-pub reminder_zero : {kind : Kind} {v : ℕ} {s : Settings} → RangesMet kind v s → reminds s.functions ≡ false → (s.x ≡ 0) × (s.y ≡ 0)
-reminder_zero {s = s} m e =
+pub reminder_zero : (kind : Kind) {v : ℕ} {s : Settings} → RangesMet kind v s → reminds s.functions ≡ false → (s.x ≡ 0) × (s.y ≡ 0)
+reminder_zero kind {s = s} m e =
     let n = eqb-false (s.functions / 4 % 2) 1 e in
     let off : s.functions / 4 % 2 ≡ 0 = omega arith in
     ((m x_setting tt).1 off, (m y_setting tt).1 off)
 
 -- beside a version that is not 3, there are no pairs
-pub no_pairs_lem : {kind : Kind} {v : ℕ} {s : Settings} → RangesMet kind v s → (v ≡ 3 → ⊥) → s.pairs ≡ no_pairs
-no_pairs_lem {s = s} m other =
+pub no_pairs_lem : (kind : Kind) {v : ℕ} {s : Settings} → RangesMet kind v s → (v ≡ 3 → ⊥) → s.pairs ≡ no_pairs
+no_pairs_lem kind {s = s} m other =
     let speed : (pair : ℕ) → pair < 4 → speed_of s.pairs pair ≡ 0 = λ pair of. (m (pair_speed_setting pair) of).1 other in
     let a : s.pairs.ten_ten ≡ 0 = speed 0 (lit< tt) in
     let b : s.pairs.ten_eleven ≡ 0 = speed 1 (lit< tt) in
@@ -146,15 +146,15 @@ no_pairs_lem {s = s} m other =
     all_zero p a b c d e = sym (rebuilt_pairs p 0 0 0 0 0 (sym a) (sym b) (sym c) (sym d) (sym e))
 
 -- settings in range beside a version are so beside every other but 1 that is 3 where it is
-pub beside : {kind : Kind} {v w : ℕ} {s : Settings} → (w ≡ 1 → v ≡ 1) → (w ≡ 3 → v ≡ 3) → (v ≡ 3 → w ≡ 3) → RangesMet kind v s → RangesMet kind w s
-beside one from to m vmax_setting of = m vmax_setting of
-beside one from to m tick_setting of = m tick_setting of
-beside one from to m bts_setting of = m bts_setting of
-beside one from to m (initial_setting row) of = m (initial_setting row) of
-beside one from to m (last_setting row) of = m (last_setting row) of
-beside one from to m (drop_setting row) of = m (drop_setting row) of
-beside one from to m functions_setting of = (λ e. (m functions_setting of).0 (one e), (m functions_setting of).1)
-beside one from to m x_setting of = m x_setting of
-beside one from to m y_setting of = m y_setting of
-beside one from to m (pair_speed_setting pair) of = (λ three. (m (pair_speed_setting pair) of).0 (from three), λ other. (m (pair_speed_setting pair) of).1 (λ three. other (to three)))
-beside one from to m pair_distance_setting of = (λ three. (m pair_distance_setting of).0 (from three), λ other. (m pair_distance_setting of).1 (λ three. other (to three)))
+pub beside : (kind : Kind) {v w : ℕ} {s : Settings} → (w ≡ 1 → v ≡ 1) → (w ≡ 3 → v ≡ 3) → (v ≡ 3 → w ≡ 3) → RangesMet kind v s → RangesMet kind w s
+beside kind one from to m vmax_setting of = m vmax_setting of
+beside kind one from to m tick_setting of = m tick_setting of
+beside kind one from to m bts_setting of = m bts_setting of
+beside kind one from to m (initial_setting row) of = m (initial_setting row) of
+beside kind one from to m (last_setting row) of = m (last_setting row) of
+beside kind one from to m (drop_setting row) of = m (drop_setting row) of
+beside kind one from to m functions_setting of = (λ e. (m functions_setting of).0 (one e), (m functions_setting of).1)
+beside kind one from to m x_setting of = m x_setting of
+beside kind one from to m y_setting of = m y_setting of
+beside kind one from to m (pair_speed_setting pair) of = (λ three. (m (pair_speed_setting pair) of).0 (from three), λ other. (m (pair_speed_setting pair) of).1 (λ three. other (to three)))
+beside kind one from to m pair_distance_setting of = (λ three. (m pair_distance_setting of).0 (from three), λ other. (m pair_distance_setting of).1 (λ three. other (to three)))

@@ -10,7 +10,7 @@ use lib.Dec.{lit≤}
 use lib.ListN.{length, drop}
 use Rattle.leaf.specs.Bytes.{byte, word}
 use Rattle.leaf.specs.Answers.{given}
-use Rattle.card.specs.Card.{length_of, no_pairs, pairs_at, reminds, row_at}
+use Rattle.card.specs.Card.{base_kind, length_of, no_pairs, pairs_at, reminds, row_at}
 use Rattle.card.specs.Reading.{kept, functions_from, pairs_from, settings_from, settings_of, read_card, paper_of}
 use Rattle.card.specs.Writing.{bytes_of, record_of, write_card, written, written_of, leaves}
 use Rattle.card.specs.Plain.{functions_setting, x_setting, y_setting, SettingsMet, Known, HeaderMet, accepted, WriteMet}
@@ -58,19 +58,19 @@ module _ (s : Settings) (rest : List ℕ) where
   settings_back_1 m =
       let none = (m functions_setting tt).0 refl in
       rebuilt s _ 0 0 0 no_pairs (word_back s.tick) (sym none) (sym ((m x_setting tt).1 (rw none))) (sym ((m y_setting tt).1 (rw none)))
-      (sym (no_pairs_lem m (λ three. omega arith)))
+      (sym (no_pairs_lem base_kind m (λ three. omega arith)))
 
   settings_back_2 : SettingsMet 2 s → settings_of (record_of 2 s ++ rest) ≡ s
   unfolding settings_from record_of bytes_of byte word row_at functions_from pairs_from
   settings_back_2 m =
-      rebuilt s _ _ _ _ no_pairs (word_back s.tick) refl (kept_back (reminds s.functions) s.x (λ e. (reminder_zero m e).0))
-      (kept_back (reminds s.functions) s.y (λ e. (reminder_zero m e).1)) (sym (no_pairs_lem m (λ three. omega arith)))
+      rebuilt s _ _ _ _ no_pairs (word_back s.tick) refl (kept_back (reminds s.functions) s.x (λ e. (reminder_zero base_kind m e).0))
+      (kept_back (reminds s.functions) s.y (λ e. (reminder_zero base_kind m e).1)) (sym (no_pairs_lem base_kind m (λ three. omega arith)))
 
   settings_back_3 : SettingsMet 3 s → settings_of (record_of 3 s ++ rest) ≡ s
   unfolding settings_from record_of bytes_of byte word row_at functions_from pairs_from pairs_at
   settings_back_3 m =
-      rebuilt s _ _ _ _ s.pairs (word_back s.tick) refl (kept_back (reminds s.functions) s.x (λ e. (reminder_zero m e).0))
-      (kept_back (reminds s.functions) s.y (λ e. (reminder_zero m e).1)) refl
+      rebuilt s _ _ _ _ s.pairs (word_back s.tick) refl (kept_back (reminds s.functions) s.x (λ e. (reminder_zero base_kind m e).0))
+      (kept_back (reminds s.functions) s.y (λ e. (reminder_zero base_kind m e).1)) refl
 
   -- the record of version 1, 2 or 3, with anything behind it, reads as its settings
   record_reads_1 : (h : ℕ) → 1 ≤ h → h ≤ 3 → SettingsMet 1 s → read_card (record_of 1 s ++ rest) h ≡ given s

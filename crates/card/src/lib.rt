@@ -20,7 +20,7 @@ use leaf::{Refusal, byte_at, copy_front, has_bit, in_range, or_fault, word_at};
 
 // A kind of card: the place of its first setting, and the range of vmax in km/h. Every kind has the same settings in the
 // same order, one behind the other.
-#[derive(Drop)]
+#[derive(Clone, Copy)]
 pub struct Kind {
     pub first: u8,
     pub vmax_lowest: u8,
@@ -38,7 +38,7 @@ impl Kind {
 
 // One control's numbers: initial and last speed in km/h, delay in samples, drop in hundredths of km/h a sample.
 // (The paper's final: `final` is a word of the language.)
-#[derive(Drop)]
+#[derive(Clone, Copy)]
 pub struct Row {
     pub initial: u8,
     pub last: u8,
@@ -47,7 +47,7 @@ pub struct Row {
 }
 
 // What pairs of limit beacons set: the speeds in km/h for pairs 10-10, 10-11, 11-10, 11-11, and the pair distance in metres.
-#[derive(Drop)]
+#[derive(Clone, Copy)]
 pub struct Pairs {
     pub ten_ten: u8,
     pub ten_eleven: u8,
@@ -68,7 +68,7 @@ impl Pairs {
 }
 
 // What a card says. A version 1 card has functions, x and y 0; all of pairs is 0 on a version 1 or 2 card.
-#[derive(Drop)]
+#[derive(Clone, Copy)]
 pub struct Settings {
     pub vmax: u8,
     pub tick: u16,
@@ -88,7 +88,7 @@ pub struct Settings {
 }
 
 // A card: its version, and beside it what it says. Opening and desk go by both.
-#[derive(Drop)]
+#[derive(Clone, Copy)]
 pub struct Card {
     pub version: u8,
     pub settings: Settings,
@@ -106,7 +106,7 @@ impl Settings {
 }
 
 // The functions of a card, by name: protected crossing, stop zone, reminder, BTS reads beacons 4, 9, 10 and 11.
-#[derive(Drop)]
+#[derive(Clone, Copy)]
 pub struct Functions {
     pub protects: bool,
     pub zones: bool,
@@ -115,26 +115,26 @@ pub struct Functions {
 }
 
 // What the check of settings answers: in range, or the byte position of the first fault.
-#[derive(Drop)]
+#[derive(Clone, Copy)]
 pub enum Checked {
     InRange,
     FaultAt(u8),
 }
 
-#[derive(Drop)]
+#[derive(Clone, Copy)]
 pub enum Reading {
     Read(Settings),
     Refused(Refusal),
 }
 
 // A card that was read, its version beside what it says, or why it was not.
-#[derive(Drop)]
+#[derive(Clone, Copy)]
 pub enum Found {
     Read(Card),
     Refused(Refusal),
 }
 
-#[derive(Drop)]
+#[derive(Clone, Copy)]
 pub enum Written {
     Done,
     NotWritten(Refusal),

@@ -26,7 +26,7 @@ pub fn behind(text: &[u8], from: usize, mark: u8) -> usize
 }
 
 // How many bytes stand at the start of the buffer, and where in the line their digits end.
-#[derive(Drop)]
+#[derive(Clone, Copy)]
 pub struct Bytes {
     pub length: usize,
     pub next: usize,

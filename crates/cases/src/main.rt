@@ -235,7 +235,7 @@ fn settings_in(card: &[u8]) -> Settings {
 }
 
 // What an area is asked: for its card under a highest version, or for a tone under its sheet.
-#[derive(Drop)]
+#[derive(Clone, Copy)]
 enum Question {
     Card(u8),
     Tone(u32),
@@ -243,7 +243,7 @@ enum Question {
 
 // What a case says of the area in the first `more` of three bytes: how many of its bytes are meant, and which byte has
 // another value.
-#[derive(Drop)]
+#[derive(Clone, Copy)]
 struct Change {
     more: u32,
     length: u8,

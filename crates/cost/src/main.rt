@@ -8,7 +8,7 @@ use session::{Opened, Outcome, Sample, Session};
 use step::Answer;
 
 // Two sums: of speeds, and of all else.
-#[derive(Drop)]
+#[derive(Clone, Copy)]
 struct Sums {
     speeds: u32,
     rest: u32,

@@ -9,7 +9,7 @@ use Rattle.leaf.specs.Choosing.{pick}
 use Rattle.leaf.specs.declared.Refusal.TheVariants.{Number}
 use Rattle.card.specs.declared.Card.{Card}
 use Rattle.card.specs.declared.Settings.{Settings}
-use Rattle.card.specs.Card.{reminds}
+use Rattle.card.specs.Card.{base_kind, reminds}
 use Rattle.card.proofs.InRange.{reminder_zero}
 use Rattle.signals.specs.Stop.{first_met, reminded_of, reminder_older}
 use Rattle.desk.specs.declared.state.Desk.{Desk}
@@ -98,7 +98,7 @@ module _ (t : Card) where
             stays_calm old.main (reminds s.functions) s.x s.y old.reminder (quiet.1.1.0 o) dark
             ∙ sym (stays_calm old.main (reminds r.functions) r.x r.y old.reminder (quiet.1.1.0 o) dark)
         cases false o h =
-            let e = reminder_same (reminds s.functions) (reminds r.functions) s.x s.y r.x r.y (reminder_zero (card_only u.card both.0).settings) (reminder_zero (card_only (later u.card t) both.1).settings) o in
+            let e = reminder_same (reminds s.functions) (reminds r.functions) s.x s.y r.x r.y (reminder_zero base_kind (card_only u.card both.0).settings) (reminder_zero base_kind (card_only (later u.card t) both.1).settings) o in
             rw (e.0, e.1, e.2)
 
     pub ran_alike : ran_of (beside u) x ≡ record { session = beside (ran_of u x).session; outcome = (ran_of u x).outcome }

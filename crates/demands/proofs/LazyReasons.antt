@@ -46,7 +46,7 @@ last_one speed (l ∷ rest) h = cases (last_at speed rest).stands refl (last_one
     cases false e later false f h = absurd (false≢true h)
 
 -- and where one of the list stands at the speed, it stands
-last_stands : {ls : List Standing} (speed : ℕ) (l : Standing) → Memᴰ l ls → Sets speed l → (last_at speed ls).stands ≡ true
+last_stands : (speed : ℕ) (l : Standing) {ls : List Standing} → Memᴰ l ls → Sets speed l → (last_at speed ls).stands ≡ true
 last_stands speed l (Memᴰ.head {x = x} {xs = rest} e) h = cases (last_at speed rest).stands refl
   where
     test : (x.stands && eqb x.speed speed) ≡ true

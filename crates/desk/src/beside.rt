@@ -9,7 +9,7 @@ use sides::pairs::Paired;
 use signals::stop::Alongside;
 
 // The order in memory is that at which a sample costs least (tests/cost).
-#[derive(Drop)]
+#[derive(Clone, Copy)]
 pub struct Beside {
     pub crossing: Crossing,
     pub paired: Paired,

@@ -10,7 +10,7 @@ pub const STANDING_TIME: u16 = 10;
 
 // `cause` is the one that stands (0: the brake is off), `stood` the number of accepted samples running without pulses, `age` how many
 // samples ago the brake came on (0: in the last one, or it is off).
-#[derive(Drop)]
+#[derive(Clone, Copy)]
 pub struct Brake {
     pub cause: u8,
     pub stood: u16,

@@ -8,7 +8,7 @@ use signals::control::MainKind;
 use signals::window::Window;
 
 // A desk, and the lowest cause that arose on the way to it (0: none).
-#[derive(Drop)]
+#[derive(Clone, Copy)]
 pub struct Turn {
     pub desk: Desk,
     pub cause: u8,

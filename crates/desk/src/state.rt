@@ -13,7 +13,7 @@ use signals::window::Window;
 
 // `bts` is the mode, `code` the last code, `window` the main window. The brake comes last in memory, where a sample costs least
 // (tests/cost).
-#[derive(Drop)]
+#[derive(Clone, Copy)]
 pub struct Desk {
     pub bts: bool,
     pub code: u8,

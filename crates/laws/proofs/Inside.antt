@@ -76,7 +76,7 @@ sample_inside s x h = cases (eqb n 0) refl
 after_inside : (s : Session) (xs : List Sample) → inside_of s ≡ true → inside_of (after s xs) ≡ true
 unfolding after
 after_inside s [] h = h
-after_inside s (x ∷ rest) h = after_inside _ rest (sample_inside s x h)
+after_inside s (x ∷ rest) h = after_inside (sample_of s x).session rest (sample_inside s x h)
 
 always_inside : (card : Card) (train : ℕ) (s : Session) (xs : List Sample) → open_session card train ≡ given s → inside_of (after s xs) ≡ true
 always_inside card train s xs h = after_inside s xs (opened_inside card train s h)

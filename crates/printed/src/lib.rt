@@ -27,14 +27,14 @@ pub const HIGHEST: u8 = 3;
 
 // Which columns are printed: document 01's, the sample's number, S, lamps and cause; or with them the rest of the answer, icon and
 // limit standing.
-#[derive(Drop)]
+#[derive(Clone, Copy)]
 pub enum Columns {
     Paper,
     Whole,
 }
 
 // What is printed of a ride: the answers alone; or document 01's columns and as a fifth the reason of S, 1..7.
-#[derive(Drop)]
+#[derive(Clone, Copy)]
 pub enum Form {
     Answers(Columns),
     Reasons,

@@ -11,7 +11,7 @@ use receiver::{Receiver, Started};
 use rides::ride::number_of;
 
 // What starting gives, and how many bytes of its text stand in the buffer.
-#[derive(Drop)]
+#[derive(Clone, Copy)]
 pub struct Begun {
     pub started: Started,
     pub length: usize,
@@ -60,7 +60,7 @@ pub fn print_start(columns: Columns, card: &[u8], out: &mut [u8]) -> Begun
 }
 
 // The receiver after a piece or an end, and how many bytes of the text stand in the buffer.
-#[derive(Drop)]
+#[derive(Clone, Copy)]
 pub struct Printed {
     pub receiver: Receiver,
     pub length: usize,

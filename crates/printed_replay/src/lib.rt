@@ -39,7 +39,7 @@ pub fn print_heading(out: &mut [u8]) -> usize
 }
 
 // What starting gives, and how many bytes of its text stand in the buffer.
-#[derive(Drop)]
+#[derive(Clone, Copy)]
 pub struct Begun {
     pub opened: Opened,
     pub length: usize,
@@ -125,7 +125,7 @@ fn put_replayed(out: &mut [u8], at: usize, place: u16, ran: u16, last: Last, end
 
 // The session after a quota, the place where it ended, whether it was refused, and how many bytes of its text stand in the
 // buffer.
-#[derive(Drop)]
+#[derive(Clone, Copy)]
 pub struct Printed {
     pub session: Session,
     pub place: u16,
@@ -185,7 +185,7 @@ pub fn print_quota(
 // ---- a quota as a word
 
 // What a word says: a quota, or none.
-#[derive(Drop)]
+#[derive(Clone, Copy)]
 pub enum Quota {
     None,
     Number(u64),

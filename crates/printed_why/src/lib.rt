@@ -18,7 +18,7 @@ use why_lines::{put_why, put_words};
 
 // How it is told: a line of S, its reason and that one's age, the cause and how many samples ago the brake came on; or a line in words, where
 // reason or cause is another than before.
-#[derive(Drop)]
+#[derive(Clone, Copy)]
 pub enum Telling {
     Line,
     Words,

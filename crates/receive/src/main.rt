@@ -76,7 +76,7 @@ fn text_room() -> [u8; TEXT_ROOM]
 }
 
 // The receiver, and whether more is to be read for it.
-#[derive(Drop)]
+#[derive(Clone, Copy)]
 struct Turn {
     receiver: Receiver,
     goes_on: bool,

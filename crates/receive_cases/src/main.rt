@@ -45,7 +45,7 @@ fn say_lines(text: &mut [u8], end: usize, status: Status) {
 }
 
 // How many lines a call shows, and the mark of all lines so far.
-#[derive(Drop)]
+#[derive(Clone, Copy)]
 struct Tally {
     lines: u32,
     mark: u32,
@@ -187,7 +187,7 @@ fn say_cuts(receiver: Receiver, digits: &[u8], step: u8) {
 // ---- the cases
 
 // What stands behind the card: calls, or a recording to be cut with this step.
-#[derive(Drop)]
+#[derive(Clone, Copy)]
 enum Way {
     Pieces,
     Cuts(u8),

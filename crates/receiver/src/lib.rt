@@ -18,14 +18,14 @@ use session::{Judged, Opened, Sample, Session, judge};
 const LENGTH_TOP: u16 = 60006;
 
 // Open while bytes or the end are to come; ended well; or refused by this number, for good.
-#[derive(Drop)]
+#[derive(Clone, Copy)]
 pub enum Status {
     Open,
     Ended,
     Refused(u8),
 }
 
-#[derive(Drop)]
+#[derive(Clone, Copy)]
 pub struct Receiver {
     // Before the train type is in, a session that is not opened yet: the card, and train type 0.
     pub session: Session,
@@ -39,14 +39,14 @@ pub struct Receiver {
 }
 
 // The receiver after a byte or an end, beside what that shows.
-#[derive(Drop)]
+#[derive(Clone, Copy)]
 pub struct Received {
     pub receiver: Receiver,
     pub shown: Shown,
 }
 
 // What starting gives.
-#[derive(Drop)]
+#[derive(Clone, Copy)]
 pub enum Started {
     Ready(Receiver),
     Refused(Refusal),

@@ -48,7 +48,7 @@ fn is_asked(arguments: usize) -> bool {
 // ---- the replay
 
 // The session and the place after a quota, and whether the next one is to be run.
-#[derive(Drop)]
+#[derive(Clone, Copy)]
 struct Turn {
     session: Session,
     place: u16,

@@ -149,7 +149,7 @@ fn say_splits(session: Session, recording: &[u8]) {
 // ---- the cases
 
 // What is asked of the recording: calls, from a session with these steps, or splits.
-#[derive(Drop)]
+#[derive(Clone, Copy)]
 enum Way {
     Calls(u8),
     Splits,

@@ -33,7 +33,7 @@ fn text_room() -> [u8; TEXT_ROOM]
 
 // A card below the heading: whether it was read, how many bytes of it stand at the start of the buffer, and how many the
 // heading has.
-#[derive(Drop)]
+#[derive(Clone, Copy)]
 pub struct Below {
     pub is_read: bool,
     pub length: usize,
@@ -94,7 +94,7 @@ fn say_ride(form: Form) {
 // ---- the programs
 
 // What a program is given: the card's file alone, or a word that it knows behind it; anything else is none of its usage.
-#[derive(Drop)]
+#[derive(Clone, Copy)]
 pub enum Given {
     Card,
     Word,

@@ -9,7 +9,7 @@ use session::Session;
 use step::Answer;
 
 // The last answer, where a sample ran.
-#[derive(Drop)]
+#[derive(Clone, Copy)]
 pub enum Last {
     None,
     Answered(Answer),
@@ -17,7 +17,7 @@ pub enum Last {
 
 // How a replay ended: unrefused, its quota or the recording used up; by the number that refuses recording or session; or by
 // the number that refuses a sample, and how many samples of the recording stand before that one.
-#[derive(Drop)]
+#[derive(Clone, Copy)]
 pub enum End {
     Unrefused,
     Refused(u8),
@@ -25,7 +25,7 @@ pub enum End {
 }
 
 // The session after the samples run, the answer to the last of them, how many ran, and how it ended.
-#[derive(Drop)]
+#[derive(Clone, Copy)]
 pub struct Replayed {
     pub session: Session,
     pub last: Last,

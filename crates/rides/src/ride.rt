@@ -13,28 +13,28 @@ use step::Answer;
 use step::speed::Reason;
 
 // The session after the samples run, and the number of the refusal that ended the ride, 0 while none has.
-#[derive(Drop)]
+#[derive(Clone, Copy)]
 pub struct Ride {
     pub session: Session,
     pub ended: u8,
 }
 
 // What a turn shows: the sample's answer, or the number that refused it; nothing once the ride has ended.
-#[derive(Drop)]
+#[derive(Clone, Copy)]
 pub enum Shown {
     Answered(Answer),
     Refused(u8),
     Nothing,
 }
 
-#[derive(Drop)]
+#[derive(Clone, Copy)]
 pub struct Turned {
     pub ride: Ride,
     pub shown: Shown,
 }
 
 // A turn, and why the S that it shows is what it is; where it shows no answer there is no reason, and all is 0.
-#[derive(Drop)]
+#[derive(Clone, Copy)]
 pub struct Explained {
     pub turned: Turned,
     pub why: Why,

@@ -17,7 +17,7 @@ use step::speed::{Reason, Standing, reason_at};
 use step::{Answer, Input, step};
 
 // What comes every 100 ms: odometer pulses, the beacon's code, the buttons newly pressed, the mode.
-#[derive(Drop)]
+#[derive(Clone, Copy)]
 pub struct Sample {
     pub pulses: u16,
     pub beacon: u8,
@@ -26,7 +26,7 @@ pub struct Sample {
 }
 
 // The card is what was handed in at the opening, its version and settings.
-#[derive(Drop)]
+#[derive(Clone, Copy)]
 pub struct Session {
     pub card: Card,
     pub train: u8,
@@ -34,21 +34,21 @@ pub struct Session {
 }
 
 // What opening gives.
-#[derive(Drop)]
+#[derive(Clone, Copy)]
 pub enum Opened {
     Ready(Session),
     Refused(Refusal),
 }
 
 // What a sample is answered with.
-#[derive(Drop)]
+#[derive(Clone, Copy)]
 pub enum Outcome {
     Answered(Answer),
     Refused(Refusal),
 }
 
 // The session after a sample, beside what it is answered with; where it is refused, the session handed in.
-#[derive(Drop)]
+#[derive(Clone, Copy)]
 pub struct Sampled {
     pub session: Session,
     pub outcome: Outcome,
@@ -56,7 +56,7 @@ pub struct Sampled {
 
 // Why S is what it is: the value, hundredths of km/h, and age of the limit that sets it; the cause that stands (0: the brake is off), and how
 // many samples ago the brake came on; and which limit it is, last in memory, where a ride that prints no reason pays least.
-#[derive(Drop)]
+#[derive(Clone, Copy)]
 pub struct Why {
     pub speed: u32,
     pub age: u16,
@@ -66,20 +66,20 @@ pub struct Why {
 }
 
 // What an accepted sample is answered with, and why.
-#[derive(Drop)]
+#[derive(Clone, Copy)]
 pub struct Reasoned {
     pub answer: Answer,
     pub why: Why,
 }
 
-#[derive(Drop)]
+#[derive(Clone, Copy)]
 pub enum Told {
     Reasoned(Reasoned),
     Refused(Refusal),
 }
 
 // The session after a sample, beside what is told of it; where it is refused, the session handed in.
-#[derive(Drop)]
+#[derive(Clone, Copy)]
 pub struct Asked {
     pub session: Session,
     pub told: Told,
@@ -143,7 +143,7 @@ pub fn type_allowed(train: u8, vmax: u8) -> bool
 }
 
 // What a card is judged as, before there is a train type.
-#[derive(Drop)]
+#[derive(Clone, Copy)]
 pub enum Judged {
     Fine,
     Refused(Refusal),

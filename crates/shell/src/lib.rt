@@ -54,7 +54,7 @@ pub fn warn(text: &[u8]) {
 // ---- the file that the argument names
 
 // Whether a file was read, and how many bytes of it stand at the start of the buffer.
-#[derive(Drop)]
+#[derive(Clone, Copy)]
 pub struct File {
     pub is_read: bool,
     pub length: usize,
@@ -185,7 +185,7 @@ fn read_most(most: usize, buf: &mut [u8]) -> File
 // ---- lines of standard input
 
 // How many bytes of a line stand at the start of the buffer, and whether there was one at all.
-#[derive(Drop)]
+#[derive(Clone, Copy)]
 pub struct Line {
     pub is_there: bool,
     pub length: usize,

@@ -8,7 +8,7 @@ const CROSSING_END: u32 = 18000000;
 // The icon of a protected crossing shows 35 m after beacon 4.
 const ICON_DISTANCE: u32 = 350000;
 
-#[derive(Drop)]
+#[derive(Clone, Copy)]
 pub enum CrossingKind {
     Absent,
     Protected,
@@ -16,7 +16,7 @@ pub enum CrossingKind {
 }
 
 // `shown` is whether the icon of a protected crossing shows; that of an unprotected one always does.
-#[derive(Drop)]
+#[derive(Clone, Copy)]
 pub struct Crossing {
     pub kind: CrossingKind,
     pub age: u16,
@@ -25,7 +25,7 @@ pub struct Crossing {
 }
 
 // Beacon 3 may be answered by the crossing's button, with the age and distance of its reading.
-#[derive(Drop)]
+#[derive(Clone, Copy)]
 pub struct CrossingOption {
     pub on: bool,
     pub age: u16,

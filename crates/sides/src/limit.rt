@@ -6,7 +6,7 @@ ghost use Rattle.sides.specs.Limit.{no_limit, limit_older, limit_set, steps_top,
 pub const STEPS_TOP: u8 = 8;
 
 // `answered` says that an answered 1 or 9 set it last.
-#[derive(Drop)]
+#[derive(Clone, Copy)]
 pub struct Limit {
     pub on: bool,
     pub age: u16,

@@ -4,7 +4,7 @@ ghost use Rattle.leaf.specs.Checks.{or_fault};
 ghost use Rattle.leaf.specs.Choosing.{pick};
 ghost use Rattle.sides.specs.Pairs.{no_first, is_first, is_eleven, first_kind, first_read, first_older, reach_of, is_second, no_paired, paired_now, paired_older, paired_speed, paired_goes, none_of_four, paired_at, four_with, four_older, any_paired, stays_check, lowest_to_go, nothing_paired, all_older};
 
-#[derive(Drop)]
+#[derive(Clone, Copy)]
 pub enum FirstKind {
     Absent,
     Ten,
@@ -13,7 +13,7 @@ pub enum FirstKind {
 
 // The last 10 or 11 read that is in no pair, how far back it is, and whether its limit is its own: no single limit stood before it.
 // The order in memory is that at which a sample costs least (tests/cost).
-#[derive(Drop)]
+#[derive(Clone, Copy)]
 pub struct First {
     pub kind: FirstKind,
     pub own: bool,
@@ -21,14 +21,14 @@ pub struct First {
 }
 
 // A paired limit, aged from the second beacon that last set it.
-#[derive(Drop)]
+#[derive(Clone, Copy)]
 pub struct PairedLimit {
     pub on: bool,
     pub age: u16,
 }
 
 // The paired limits, each by its speed in km/h.
-#[derive(Drop)]
+#[derive(Clone, Copy)]
 pub struct FourLimits {
     pub thirty: PairedLimit,
     pub forty: PairedLimit,
@@ -36,7 +36,7 @@ pub struct FourLimits {
     pub seventy: PairedLimit,
 }
 
-#[derive(Drop)]
+#[derive(Clone, Copy)]
 pub struct Paired {
     pub first: First,
     pub limits: FourLimits,

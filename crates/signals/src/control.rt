@@ -6,7 +6,7 @@ ghost use Rattle.signals.specs.MainControl.{main_of, main_older, is_stop, is_bef
 const ZONE_DISTANCE: u32 = 800000;
 
 // `Clear` is no main limit: after beacon 3, and in BTS.
-#[derive(Drop)]
+#[derive(Clone, Copy)]
 pub enum MainKind {
     Clear,
     Start,
@@ -20,7 +20,7 @@ pub enum MainKind {
 }
 
 // `increased` is said of stop only.
-#[derive(Drop)]
+#[derive(Clone, Copy)]
 pub struct Main {
     pub kind: MainKind,
     pub age: u16,

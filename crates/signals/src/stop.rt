@@ -4,21 +4,21 @@ ghost use Rattle.signals.specs.Stop.{stop_speed, none_alongside, starts_alongsid
 
 use crate::control::Main;
 
-#[derive(Drop)]
+#[derive(Clone, Copy)]
 pub struct Alongside {
     pub on: bool,
     pub age: u16,
     pub increased: bool,
 }
 
-#[derive(Drop)]
+#[derive(Clone, Copy)]
 pub struct Override {
     pub armed: bool,
     pub age: u16,
 }
 
 // `Due`: the stop of a beacon 8 passed under override, not yet 200 m back. `Pressed`: the first was answered.
-#[derive(Drop)]
+#[derive(Clone, Copy)]
 pub enum Phase {
     Off,
     Due,
@@ -28,7 +28,7 @@ pub enum Phase {
 }
 
 // `age` is that of the lit reminder; `fast` counts the samples at 5 km/h or more and `distance` the travel since the press.
-#[derive(Drop)]
+#[derive(Clone, Copy)]
 pub struct Reminder {
     pub phase: Phase,
     pub age: u16,

@@ -14,7 +14,7 @@ pub const ZONE_MISS: u16 = 40;
 const ZONE_PRESS: u16 = 10;
 
 // Which reading waits. `Zone` is the window of the stop zone, `Limit` that of beacons 10 and 11.
-#[derive(Drop)]
+#[derive(Clone, Copy)]
 pub enum Waits {
     Nothing,
     One,
@@ -29,7 +29,7 @@ pub enum Waits {
 
 // `left` is the time to the miss, which a reading inherits from the window that it displaces; `age` and
 // `distance` are those of the reading itself.
-#[derive(Drop)]
+#[derive(Clone, Copy)]
 pub struct Window {
     pub waits: Waits,
     pub left: u16,

@@ -60,11 +60,11 @@ under so_far (l ∷ rest) speed h =
     let next = one.1 in
     under (lower so_far l) rest speed (one.0, omega arith)
 
-pub below : {ls : List Standing} (so_far l : Standing) → Memᴰ l ls → l.stands ≡ true → Under l.speed (least_of so_far ls)
-below so_far l (Memᴰ.head {x = first} {xs = rest} e) h =
+pub below : (l so_far : Standing) {ls : List Standing} → Memᴰ l ls → l.stands ≡ true → Under l.speed (least_of so_far ls)
+below l so_far (Memᴰ.head {x = first} {xs = rest} e) h =
     let one : Under first.speed (lower so_far first) = lower_second so_far first (rw (← e) h) in
     rw e (under (lower so_far first) rest first.speed one)
-below so_far l (Memᴰ.tail {x = first} {xs = rest} m) h = below (lower so_far first) l m h
+below l so_far (Memᴰ.tail {x = first} {xs = rest} m) h = below l (lower so_far first) m h
 
 pub among : (so_far : Standing) (ls : List Standing) → (least_of so_far ls ≡ so_far) ⊎ Memᴰ (least_of so_far ls) ls
 among so_far [] = inl refl

@@ -16,7 +16,7 @@ use leaf::{QUIET_CODE, button, has_bit};
 use speed::{Standing, reason_at, too_fast, turn_crossing};
 
 // What the desk takes of an accepted sample: speed and travel, pulses, beacon code, buttons, and the mode.
-#[derive(Drop)]
+#[derive(Clone, Copy)]
 pub struct Input {
     pub m: u32,
     pub pulses: u16,
@@ -26,7 +26,7 @@ pub struct Input {
 }
 
 // S, lamps, standing cause (0 none), crossing icon (0, 1 protected, 2 unprotected), limit standing or not.
-#[derive(Drop)]
+#[derive(Clone, Copy)]
 pub struct Answer {
     pub speed: u32,
     pub lamps: u16,
@@ -36,7 +36,7 @@ pub struct Answer {
 }
 
 // The next desk, the lowest cause that arose in the sample (0 none), the answer, and the limit that sets its S.
-#[derive(Drop)]
+#[derive(Clone, Copy)]
 pub struct Stepped {
     pub desk: Desk,
     pub arose: u8,

@@ -17,7 +17,7 @@ use signals::stop::{Alongside, stop_speed};
 
 // Which limit it is, in the order in which equal ones are named: vmax, T of the train type, BTS speed, the main control, the stop that stays
 // alongside, the crossing, the limit, a paired limit.
-#[derive(Drop)]
+#[derive(Clone, Copy)]
 pub enum Reason {
     None,
     Vmax,
@@ -49,7 +49,7 @@ pub fn reason_number(reason: Reason) -> u8
 
 // A limit: does it stand, hundredths of km/h, which one it is, and its age. One that does not stand is none, with 0 for both numbers. The
 // order in memory is that at which a sample costs least (tests/cost).
-#[derive(Drop)]
+#[derive(Clone, Copy)]
 pub struct Standing {
     pub stands: bool,
     pub speed: u32,

@@ -67,7 +67,7 @@ further speed x rest not_here p =
     before (suc k) less h = p.none_before k (omega arith) h
 
 -- a list in which one stands at the speed has a first
-first_place : {ls : List Standing} (speed : ℕ) (l : Standing) → Memᴰ l ls → Sets speed l → FirstPlace speed ls
+first_place : (speed : ℕ) (l : Standing) {ls : List Standing} → Memᴰ l ls → Sets speed l → FirstPlace speed ls
 first_place speed l (Memᴰ.head {x = x} {xs = rest} e) h = here speed x rest (ap (λ (y : Standing). y.stands) (sym e) ∙ h.0, ap (λ (y : Standing). y.speed) (sym e) ∙ h.1)
 first_place speed l (Memᴰ.tail {x = x} {xs = rest} m) h = cases x.stands refl (eqb x.speed speed) refl (first_place speed l m h)
   where

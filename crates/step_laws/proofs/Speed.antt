@@ -22,11 +22,11 @@ module _ (s : Settings) (top : ℕ) where
   one_stands : (d : Desk) → (least_of none (limits s top d)).stands ≡ true
   one_stands d =
       let first : Memᴰ (always_at Vmax (s.vmax * 100)) (limits s top d) = mathlib.Core.List.Memᴰ.head refl in
-      (below none (always_at Vmax (s.vmax * 100)) first refl).0
+      (below (always_at Vmax (s.vmax * 100)) none first refl).0
 
   speed_below : (d : Desk) (n : ℕ) → Stands s top d n → supervised_of s top d ≤ n
   unfolding supervised_of
-  speed_below d n l = let low = (below none l.limit l.listed l.stands).1 in let e = l.same in omega arith
+  speed_below d n l = let low = (below l.limit none l.listed l.stands).1 in let e = l.same in omega arith
 
   pub speed_among : (d : Desk) → Stands s top d (supervised_of s top d)
   unfolding supervised_of

@@ -23,7 +23,7 @@ const ROWS: usize = 12;
 const BAD_SHEET: u8 = 12;
 
 // A row of the sheet, in kHz.
-#[derive(Drop)]
+#[derive(Clone, Copy)]
 pub struct ToneRow {
     pub low: f32,
     pub centre: f32,
@@ -31,13 +31,13 @@ pub struct ToneRow {
 }
 
 // The permanent tone's row, then those of beacons 1 to 11.
-#[derive(Drop)]
+#[derive(Clone, Copy)]
 pub struct Sheet {
     pub rows: [ToneRow; 12],
 }
 
 // What a tone reads as: a beacon's number with the offset from its row's centre, the permanent tone with its offset.
-#[derive(Drop)]
+#[derive(Clone, Copy)]
 pub enum Reading {
     Beacon(u8, f32),
     Permanent(f32),
@@ -45,21 +45,21 @@ pub enum Reading {
 }
 
 // Whether a sheet is accepted.
-#[derive(Drop)]
+#[derive(Clone, Copy)]
 pub enum Fault {
     Sound,
     Bad(Refusal),
 }
 
 // A sheet, blank where it is refused.
-#[derive(Drop)]
+#[derive(Clone, Copy)]
 pub struct SheetAnswer {
     pub fault: Fault,
     pub sheet: Sheet,
 }
 
 // What a tone reads as, or the sheet's refusal.
-#[derive(Drop)]
+#[derive(Clone, Copy)]
 pub enum ToneAnswer {
     Reads(Reading),
     Refused(Refusal),

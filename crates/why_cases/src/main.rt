@@ -91,7 +91,7 @@ fn say_samples(session: Session, samples: &[u8]) {
 // ---- the cases
 
 // What the brake is made to be.
-#[derive(Drop)]
+#[derive(Clone, Copy)]
 struct Braked {
     cause: u8,
     since: u16,
