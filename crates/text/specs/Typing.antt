@@ -1,6 +1,6 @@
 -- Text typed into a lent buffer from a place on, as much of it as there is room for.
-use Rattle.std.specs.Prelude.{ℕ, suc, ◌+◌, min, ◌≤◌, ◌<◌, ◌≡◌, refl, List, [], ◌∷◌, ◌++◌, Bool, true, false, ltb, length, set, take, drop}
-use Rattle.std.proofs.Common.{arith, add-one, sym, ap, ◌∙◌, append-nil, length-append, length-take, length-drop, length-take-le, lt-ltb, le-ltb}
+use Rattle.std.specs.Prelude.{ℕ, suc, ◌+◌, min, ◌≤◌, ◌<◌, ◌≡◌, refl, List, [], ◌∷◌, ◌++◌, ltb, length, set, take}
+use Rattle.std.proofs.Common.{arith, sym, ap, ◌∙◌, append-nil, length-append, length-take, length-drop, length-take-le, lt-ltb, le-ltb}
 use Rattle.std.proofs.Math.Seq.{append_snoc, set-append_seam}
 use Rattle.leaf.specs.Choosing.{pick}
 use Rattle.leaf.specs.Bytes.{over}

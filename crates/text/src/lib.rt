@@ -2,6 +2,8 @@
 //
 // Each function types from the place `at` on and answers the place behind what it typed. Where the buffer ends the text is
 // cut off; no other byte of the buffer is changed. There is no public `requires`.
+#![tactic(auto)]
+
 ghost use Rattle.std.specs.Prelude.{◌≡◌, [], ◌∷◌, ◌+◌, ◌%◌, ◌≤◌};
 ghost use Rattle.std.specs.Float.{binary32};
 ghost use Rattle.std.specs.Float.Ieee.{to_bits};
@@ -24,6 +26,7 @@ pub const MOST: usize = 65536;
 // ---- bytes and words
 
 // One byte.
+#[tactic(auto, unfolding(crate::specs::Typing::typed))]
 pub fn put(out: &mut [u8], at: usize, byte: u8) -> usize
     ensures { (out.new, result) ≡ typed (byte ∷ []) (out.old, at) }
 {
@@ -35,6 +38,7 @@ pub fn put(out: &mut [u8], at: usize, byte: u8) -> usize
 }
 
 // All bytes of a text.
+#[tactic(auto, unfolding(crate::specs::Typing::typed))]
 pub fn put_text(out: &mut [u8], at: usize, text: &[u8]) -> usize
     ensures { (out.new, result) ≡ typed text.now (out.old, at) }
 {
@@ -48,6 +52,7 @@ pub fn put_text(out: &mut [u8], at: usize, text: &[u8]) -> usize
 }
 
 // The byte, where the test holds.
+#[tactic(auto, unfolding(crate::specs::Typing::typed))]
 fn put_if(out: &mut [u8], at: usize, test: bool, byte: u8) -> usize
     ensures { (out.new, result) ≡ typed (pick test (byte ∷ []) []) (out.old, at) }
 {
@@ -58,6 +63,7 @@ fn put_if(out: &mut [u8], at: usize, test: bool, byte: u8) -> usize
 }
 
 // The word that k bars stand before in a list of words with a bar between them; nothing where there are fewer.
+#[tactic(auto, unfolding(crate::specs::Typing::typed, crate::specs::Words::word_of))]
 pub fn put_word(out: &mut [u8], at: usize, words: &[u8], k: u32) -> usize
     ensures { (out.new, result) ≡ typed (word_of words.now k) (out.old, at) }
 {
@@ -98,6 +104,7 @@ fn digit(n: u32) -> u8
 }
 
 // The digit that stands for a power of ten, where n reaches it.
+#[tactic(auto, unfolding(crate::specs::Typing::typed))]
 fn put_digit(out: &mut [u8], at: usize, power: u32, n: u32) -> usize
     requires { 1 ≤ power }
     ensures { (out.new, result) ≡ typed (digit_of power n) (out.old, at) }
@@ -108,6 +115,7 @@ fn put_digit(out: &mut [u8], at: usize, power: u32, n: u32) -> usize
     put(out, at, digit(n / power % 10))
 }
 
+#[tactic(auto, unfolding(crate::specs::Typing::typed, crate::specs::Decimal::upper_of))]
 fn put_upper(out: &mut [u8], at: usize, n: u32) -> usize
     ensures { (out.new, result) ≡ typed (upper_of n) (out.old, at) }
 {
@@ -118,6 +126,7 @@ fn put_upper(out: &mut [u8], at: usize, n: u32) -> usize
     put_digit(out, at, 100000, n)
 }
 
+#[tactic(auto, unfolding(crate::specs::Typing::typed, crate::specs::Decimal::lower_of))]
 fn put_lower(out: &mut [u8], at: usize, n: u32) -> usize
     ensures { (out.new, result) ≡ typed (lower_of n) (out.old, at) }
 {
@@ -129,6 +138,7 @@ fn put_lower(out: &mut [u8], at: usize, n: u32) -> usize
 }
 
 // A number in decimal.
+#[tactic(auto, unfolding(crate::specs::Typing::typed, crate::specs::Decimal::decimal, crate::specs::Decimal::upper_of, crate::specs::Decimal::lower_of))]
 pub fn put_number(out: &mut [u8], at: usize, n: u32) -> usize
     ensures { (out.new, result) ≡ typed (decimal n) (out.old, at) }
 {
@@ -137,6 +147,7 @@ pub fn put_number(out: &mut [u8], at: usize, n: u32) -> usize
 }
 
 // A number in decimal, and what ends it: a blank, or a line's end.
+#[tactic(auto, unfolding(crate::specs::Typing::typed, crate::specs::Decimal::decimal, crate::specs::Decimal::upper_of, crate::specs::Decimal::lower_of))]
 pub fn put_ended(out: &mut [u8], at: usize, n: u32, end: u8) -> usize
     ensures { (out.new, result) ≡ typed (ended n end) (out.old, at) }
 {
@@ -145,6 +156,7 @@ pub fn put_ended(out: &mut [u8], at: usize, n: u32, end: u8) -> usize
 }
 
 // Words, and the number that they name.
+#[tactic(auto, using(crate::specs::Typing::then_typed))]
 pub fn put_labelled(out: &mut [u8], at: usize, words: &[u8], n: u32) -> usize
     ensures { (out.new, result) ≡ typed (labelled words.now n) (out.old, at) }
 {
@@ -153,6 +165,7 @@ pub fn put_labelled(out: &mut [u8], at: usize, words: &[u8], n: u32) -> usize
 }
 
 // A number of tenths with its one decimal.
+#[tactic(auto, unfolding(crate::specs::Typing::typed, crate::specs::Decimal::tenths, crate::specs::Decimal::decimal, crate::specs::Decimal::upper_of, crate::specs::Decimal::lower_of))]
 pub fn put_tenths(out: &mut [u8], at: usize, n: u32) -> usize
     ensures { (out.new, result) ≡ typed (tenths n) (out.old, at) }
 {
@@ -161,6 +174,7 @@ pub fn put_tenths(out: &mut [u8], at: usize, n: u32) -> usize
 }
 
 // A number of hundredths with both decimals.
+#[tactic(auto, unfolding(crate::specs::Typing::typed, crate::specs::Decimal::hundredths, crate::specs::Decimal::decimal, crate::specs::Decimal::upper_of, crate::specs::Decimal::lower_of))]
 pub fn put_hundredths(out: &mut [u8], at: usize, n: u32) -> usize
     ensures { (out.new, result) ≡ typed (hundredths n) (out.old, at) }
 {
@@ -170,6 +184,7 @@ pub fn put_hundredths(out: &mut [u8], at: usize, n: u32) -> usize
 }
 
 // A refusal's number, and its place where it has one.
+#[tactic(auto, using(crate::specs::Typing::then_typed), unfolding(crate::specs::Typing::typed))]
 pub fn put_refusal(out: &mut [u8], at: usize, why: Refusal) -> usize
     ensures { (out.new, result) ≡ typed (refusal_text why) (out.old, at) }
 {
@@ -193,6 +208,7 @@ fn glyph(b: u8) -> u8
 }
 
 // A byte's two digits.
+#[tactic(auto, unfolding(crate::specs::Typing::typed, crate::specs::Hex::hex_of))]
 pub fn put_hex(out: &mut [u8], at: usize, b: u8) -> usize
     ensures { (out.new, result) ≡ typed (hex_of b) (out.old, at) }
 {
@@ -201,6 +217,7 @@ pub fn put_hex(out: &mut [u8], at: usize, b: u8) -> usize
 }
 
 // The eight digits of a bit pattern.
+#[tactic(auto, unfolding(crate::specs::Typing::typed, crate::specs::Hex::pattern_of, crate::specs::Hex::hex_of))]
 pub fn put_pattern(out: &mut [u8], at: usize, bits: u32) -> usize
     ensures { (out.new, result) ≡ typed (pattern_of bits) (out.old, at) }
 {
@@ -225,6 +242,7 @@ pub fn put_float(out: &mut [u8], at: usize, x: f32) -> usize
 }
 
 // The value of a hexadecimal digit in either case, 16 for any other byte.
+#[tactic(auto, unfolding(crate::specs::Hex::hex_value))]
 pub fn hex_digit(b: u8) -> u8
     ensures { result ≡ hex_value b }
 {
