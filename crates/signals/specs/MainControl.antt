@@ -1,6 +1,6 @@
 -- Document 01, "Controls": the main control. Distances are tenths of a millimetre, 10,000 to the metre.
 use Rattle.std.specs.Prelude.{ℕ, Bool, true, false, ◌&&◌, not, leb, ltb}
-use Rattle.leaf.specs.Numbers.{aged_of, further_of, within}
+use Rattle.leaf.specs.Numbers.{aged_of, further_of}
 use Rattle.signals.specs.declared.control.MainKind.{MainKind}
 use Rattle.signals.specs.declared.control.MainKind.TheVariants.{Clear, Start, ConditionalClear, Announcement, Preannouncement, Caution, BeforeStop, Stop, Zone}
 use Rattle.signals.specs.declared.control.Main.{Main}

@@ -1,5 +1,5 @@
 -- Document 01, "Controls": stop, its increase, the stop alongside, the armed override, the reminder.
-use Rattle.std.specs.Prelude.{ℕ, ◌*◌, ◌/◌, min, Bool, true, false, ◌&&◌, ◌||◌, not, leb, ltb}
+use Rattle.std.specs.Prelude.{ℕ, ◌*◌, ◌/◌, min, Bool, true, false, ◌&&◌, ◌||◌, leb, ltb}
 use Rattle.leaf.specs.Choosing.{pick}
 use Rattle.leaf.specs.Numbers.{aged_of, further_of, below_of}
 use Rattle.signals.specs.declared.control.Main.{Main}

@@ -41,6 +41,7 @@ impl Main {
         }
     }
 
+    #[tactic(auto, unfolding(crate::specs::MainControl::main_older))]
     pub fn older(self, m: u32) -> Main
         ensures { result ≡ main_older m self }
     {
@@ -106,6 +107,7 @@ impl Main {
     }
 
     // The stop-zone rule: row 4 is main and under 80 m from its reading.
+    #[tactic(auto, unfolding(crate::specs::MainControl::near_of))]
     pub fn near(self) -> bool
         ensures { result ≡ near_of self }
     {
@@ -113,6 +115,7 @@ impl Main {
     }
 
     // Has stop use for increase.
+    #[tactic(auto, unfolding(crate::specs::MainControl::may_increase))]
     pub fn may_increase(self) -> bool
         ensures { result ≡ may_increase self }
     {
@@ -120,6 +123,7 @@ impl Main {
     }
 
     // Is the lamp of increase lit for stop.
+    #[tactic(auto, unfolding(crate::specs::MainControl::increase_lit))]
     pub fn increase_lit(self) -> bool
         ensures { result ≡ increase_lit self }
     {

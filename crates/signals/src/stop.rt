@@ -65,6 +65,7 @@ impl Alongside {
         }
     }
 
+    #[tactic(auto, unfolding(crate::specs::Stop::alongside_older))]
     pub fn older(self) -> Alongside
         ensures { result ≡ alongside_older self }
     {
@@ -77,6 +78,7 @@ impl Alongside {
     }
 
     // What stays alongside when another main control than stop takes over from `main`.
+    #[tactic(auto, unfolding(crate::specs::Stop::alongside_after))]
     pub fn after(self, main: Main) -> Alongside
         ensures { result ≡ alongside_after main self }
     {
@@ -108,6 +110,7 @@ impl Override {
         }
     }
 
+    #[tactic(auto, unfolding(crate::specs::Stop::override_older))]
     pub fn older(self) -> Override
         ensures { result ≡ override_older self }
     {
@@ -132,6 +135,7 @@ impl Reminder {
         }
     }
 
+    #[tactic(auto, unfolding(crate::specs::Stop::reminder_older))]
     pub fn older(self, m: u32) -> Reminder
         ensures { result ≡ reminder_older m self }
     {
@@ -197,6 +201,7 @@ impl Reminder {
         }
     }
 
+    #[tactic(auto, unfolding(crate::specs::Stop::reminder_missed))]
     pub fn missed(self) -> bool
         ensures { result ≡ reminder_missed self }
     {
@@ -204,6 +209,7 @@ impl Reminder {
     }
 
     // The first reminder's rule, whatever function 2 says.
+    #[tactic(auto, unfolding(crate::specs::Stop::first_met))]
     pub fn first_met(self, main: Main) -> bool
         ensures { result ≡ first_met main self }
     {
@@ -211,6 +217,7 @@ impl Reminder {
     }
 
     // The second reminder's rule: X samples (X/2 where the stop is increased) or Y metres since the press.
+    #[tactic(auto, unfolding(crate::specs::Stop::second_met))]
     fn second_met(self, increased: bool, x: u16, y: u16) -> bool
         ensures { result ≡ second_met increased x y self }
     {
@@ -220,6 +227,7 @@ impl Reminder {
     }
 
     // The reminder after its step of a sample: missed, lit, or as it was.
+    #[tactic(auto, unfolding(crate::specs::Stop::reminded_of))]
     pub fn reminded(self, main: Main, reminds: bool, x: u16, y: u16) -> Reminder
         ensures { result ≡ reminded_of main reminds x y self }
     {
@@ -239,6 +247,7 @@ impl Reminder {
     }
 
     // Does a press of override now answer it.
+    #[tactic(auto, unfolding(crate::specs::Stop::takes_press))]
     pub fn takes_press(self) -> bool
         ensures { result ≡ takes_press self }
     {

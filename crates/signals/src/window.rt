@@ -85,6 +85,7 @@ impl Window {
     }
 
     // One sample on, with a travel of m.
+    #[tactic(auto, unfolding(crate::specs::Windows::window_older))]
     pub fn older(self, m: u32) -> Window
         ensures { result ≡ window_older m self }
     {
@@ -97,6 +98,7 @@ impl Window {
         }
     }
 
+    #[tactic(auto, unfolding(crate::specs::Windows::missed_of))]
     pub fn missed(self) -> bool
         ensures { result ≡ missed_of self }
     {
@@ -128,6 +130,7 @@ impl Window {
     }
 
     // Is the button of this weight a right press.
+    #[tactic(auto, unfolding(crate::specs::Windows::answers_of))]
     pub fn answers(self, weight: u16) -> bool
         ensures { result ≡ answers_of self weight }
     {
@@ -135,6 +138,7 @@ impl Window {
     }
 
     // The time to the miss of a reading that comes now: this window's, where it is open.
+    #[tactic(auto, unfolding(crate::specs::Windows::time_left))]
     pub fn time_left(self, fresh: u16) -> u16
         ensures { result ≡ time_left self fresh }
     {
