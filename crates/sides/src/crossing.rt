@@ -78,6 +78,7 @@ impl Crossing {
     }
 
     // One sample on: over at 1,800 m, and its icon shown at 35 m.
+    #[tactic(auto, unfolding(crate::specs::Crossing::crossing_older))]
     pub fn older(self, m: u32) -> Crossing
         ensures { result ≡ crossing_older m self }
     {
@@ -97,6 +98,7 @@ impl Crossing {
     }
 
     // An unprotected crossing is set; it takes over a protected one, and a repeat restarts only the distance.
+    #[tactic(auto, unfolding(crate::specs::Crossing::unprotected_set))]
     pub fn set_unprotected(self, age: u16, distance: u32) -> Crossing
         ensures { result ≡ unprotected_set age distance self }
     {
@@ -111,6 +113,7 @@ impl Crossing {
 
     // A protected crossing is set, showing its icon at once or not; an unprotected one stays, and a repeat
     // restarts only the distance.
+    #[tactic(auto, unfolding(crate::specs::Crossing::protected_set))]
     pub fn set_protected(self, age: u16, distance: u32, shows: bool) -> Crossing
         ensures { result ≡ protected_set age distance shows self }
     {
@@ -128,6 +131,7 @@ impl Crossing {
     }
 
     // The speed step: a protected crossing turns unprotected at age 0 below 40 km/h, its distance kept.
+    #[tactic(auto, unfolding(crate::specs::Crossing::turned_at, crate::specs::Crossing::turns_at))]
     pub fn turned(self, m: u32) -> Crossing
         ensures { result ≡ turned_at m self }
     {
@@ -151,6 +155,7 @@ impl Crossing {
     }
 
     // 0 none, 1 protected, 2 unprotected.
+    #[tactic(auto, unfolding(crate::specs::Crossing::icon_of))]
     pub fn icon(self) -> u8
         ensures { result ≡ icon_of self }
     {
@@ -180,6 +185,7 @@ impl CrossingOption {
         }
     }
 
+    #[tactic(auto, unfolding(crate::specs::Crossing::option_older))]
     pub fn older(self, m: u32) -> CrossingOption
         ensures { result ≡ option_older m self }
     {

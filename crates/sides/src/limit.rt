@@ -22,6 +22,7 @@ fn step_top(top: u32) -> u32
 }
 
 // The final value `last` (km/h) with its steps, in hundredths of km/h.
+#[tactic(auto, unfolding(crate::specs::Limit::stepped_final))]
 fn stepped_final(last: u8, steps: u8, top: u32) -> u32
     ensures { result ≡ stepped_final last steps top }
 {
@@ -66,6 +67,7 @@ impl Limit {
     }
 
     // The limit is set by a reading of this age, as it is read or by its answer; a repeat keeps the standing limit's.
+    #[tactic(auto, unfolding(crate::specs::Limit::limit_set))]
     pub fn set(self, age: u16, answered: bool) -> Limit
         ensures { result ≡ limit_set answered age self }
     {
@@ -78,6 +80,7 @@ impl Limit {
     }
 
     // Hundredths of km/h: `row` is what row 6 gives at its age, `last` the row's final, `top` is T.
+    #[tactic(auto, unfolding(crate::specs::Limit::limit_speed))]
     pub fn speed(self, row: u32, last: u8, top: u32) -> u32
         ensures { result ≡ limit_speed row last top self }
     {
@@ -86,6 +89,7 @@ impl Limit {
     }
 
     // Does a press of increase, for which stop has no use, add a step; `pairs` says that the card has pairs.
+    #[tactic(auto, unfolding(crate::specs::Limit::may_step))]
     pub fn may_step(self, pairs: bool, row: u32, last: u8, top: u32) -> bool
         ensures { result ≡ may_step pairs row last top self }
     {
@@ -118,6 +122,7 @@ impl Limit {
     }
 
     // May button 6 take it off, at m mm/s.
+    #[tactic(auto, unfolding(crate::specs::Limit::removable))]
     pub fn is_removable(self, m: u32, last: u8, top: u32) -> bool
         ensures { result ≡ removable m last top self }
     {

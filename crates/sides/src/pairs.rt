@@ -64,6 +64,7 @@ impl First {
     }
 
     // A 10 or 11 that is read now.
+    #[tactic(auto, unfolding(crate::specs::Pairs::first_read))]
     pub fn read(code: u8, own: bool) -> First
         ensures { result ≡ first_read code own }
     {
@@ -98,6 +99,7 @@ impl First {
     }
 
     // One sample on, with a travel of m.
+    #[tactic(auto, unfolding(crate::specs::Pairs::first_older))]
     pub fn older(mut self, m: u32) -> First
         ensures { result ≡ first_older m self }
     {
@@ -110,6 +112,7 @@ impl First {
     }
 
     // Is a 10 or 11 that is read now its second: at no more than so many metres from it.
+    #[tactic(auto, unfolding(crate::specs::Pairs::is_second))]
     pub fn has_second(self, metres: u8) -> bool
         ensures { result ≡ is_second metres self }
     {
@@ -138,6 +141,7 @@ impl PairedLimit {
         PairedLimit { on: true, age: 0 }
     }
 
+    #[tactic(auto, unfolding(crate::specs::Pairs::paired_older))]
     pub fn older(self) -> PairedLimit
         ensures { result ≡ paired_older self }
     {
@@ -151,6 +155,7 @@ impl PairedLimit {
     }
 
     // May button 6 take it off, at m mm/s, where it is the one of this speed.
+    #[tactic(auto, unfolding(crate::specs::Pairs::paired_goes))]
     pub fn may_go(self, m: u32, top: u32, speed: u8) -> bool
         ensures { result ≡ paired_goes m top speed self }
     {
@@ -190,6 +195,7 @@ impl FourLimits {
     }
 
     // With another in the place of the one of this speed.
+    #[tactic(auto, unfolding(crate::specs::Pairs::four_with))]
     pub fn with(self, speed: u8, limit: PairedLimit) -> FourLimits
         ensures { result ≡ four_with speed limit self }
     {
@@ -205,6 +211,7 @@ impl FourLimits {
         }
     }
 
+    #[tactic(auto, unfolding(crate::specs::Pairs::four_older))]
     pub fn older(self) -> FourLimits
         ensures { result ≡ four_older self }
     {
@@ -221,6 +228,7 @@ impl FourLimits {
     }
 
     // Does any of them stand.
+    #[tactic(auto, unfolding(crate::specs::Pairs::any_paired))]
     pub fn any(self) -> bool
         ensures { result ≡ any_paired self }
     {
@@ -239,6 +247,7 @@ impl FourLimits {
         leaf::or_fault(found, speed, !limit.may_go(m, top, speed))
     }
 
+    #[tactic(auto, unfolding(crate::specs::Pairs::lowest_to_go))]
     fn first_to_go(self, m: u32, top: u32) -> u8
         ensures { result ≡ lowest_to_go m top self }
     {
@@ -249,6 +258,7 @@ impl FourLimits {
     }
 
     // The speed of the lowest that may go at m mm/s, 0 where none may.
+    #[tactic(auto, using(crate::specs::Laws::none_goes))]
     pub fn lowest_to_go(self, m: u32, top: u32) -> u8
         ensures { result ≡ lowest_to_go m top self }
     {
@@ -271,6 +281,7 @@ impl Paired {
     }
 
     // One sample on, with a travel of m. Where no first is there and no paired limit stands, there is nothing to do.
+    #[tactic(auto, using(crate::specs::Laws::nothing_older), unfolding(crate::specs::Pairs::all_older))]
     pub fn older(self, m: u32) -> Paired
         ensures { result ≡ all_older m self }
     {
