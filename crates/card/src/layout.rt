@@ -33,6 +33,7 @@ fn word_from(area: &[u8], kind: Kind, offset: u8) -> u16
     word_at(area, (kind.first as u32) + (offset as u32))
 }
 
+#[tactic(auto, unfolding(crate::specs::Card::row_at))]
 fn row_from(area: &[u8], kind: Kind, offset: u8) -> Row
     ensures { result ≡ row_at area.now (kind.first + offset) }
 {
@@ -46,6 +47,7 @@ fn row_from(area: &[u8], kind: Kind, offset: u8) -> Row
 }
 
 // A version 1 card has functions 0, whatever stands behind it.
+#[tactic(auto, unfolding(crate::specs::Reading::functions_from))]
 fn functions_from(kind: Kind, version: u8, area: &[u8]) -> u8
     ensures { result ≡ functions_from kind version area.now }
 {
@@ -54,6 +56,7 @@ fn functions_from(kind: Kind, version: u8, area: &[u8]) -> u8
 }
 
 // The pairs of a version 3 card. Cards of other versions have none, whatever stands behind them.
+#[tactic(auto, unfolding(crate::specs::Reading::pairs_from, crate::specs::Card::pairs_at))]
 fn pairs_from(kind: Kind, version: u8, area: &[u8]) -> Pairs
     ensures { result ≡ pairs_from kind version area.now }
 {
@@ -101,6 +104,7 @@ impl Kind {
 }
 
 // The bytes of the longest record; those of a shorter one come first among them.
+#[tactic(auto, unfolding(crate::specs::Writing::bytes_of))]
 pub fn encode(version: u8, s: Settings) -> [u8; 49]
     ensures { result ≡ bytes_of version s }
 {

@@ -3,6 +3,8 @@
 //
 // Every function is total: there is no `requires`. Each public one ensures that its answer, put on paper by the
 // definition beside it, is the answer that specs/ defines; the writer ensures so of every byte of the lent buffer too.
+#![tactic(auto)]
+
 mod layout;
 mod ranges;
 
@@ -155,6 +157,7 @@ pub fn functions_of(byte: u8) -> Functions
 // ---- the settings' check
 
 // Are the settings in range beside this version, as writer and opening ask.
+#[tactic(auto, unfolding(crate::specs::Ranges::check_settings, crate::specs::Ranges::fault_of))]
 pub fn check(version: u8, s: Settings) -> Checked
     ensures { checked_of result ≡ check_settings version s }
 {
@@ -162,6 +165,7 @@ pub fn check(version: u8, s: Settings) -> Checked
 }
 
 // The same, without the place of a fault.
+#[tactic(auto, using(crate::proofs::InRange::base_placed, crate::proofs::InRange::inside_given), unfolding(crate::specs::Ranges::check_settings, crate::specs::Ranges::fault_of))]
 pub fn is_in_range(version: u8, s: Settings) -> bool
     ensures { result ≡ is_given (check_settings version s) }
 {
@@ -204,6 +208,7 @@ fn read_refusal(area: &[u8], highest: u8, fine: bool) -> u8
 
 impl Reading {
     // The reading by the number of the refusal that is due, 0 where none is; 5 comes with the place.
+    #[tactic(auto, unfolding(crate::specs::Reading::answer_by))]
     pub fn by_number(number: u8, place: u8, s: Settings) -> Reading
         ensures { paper_of result ≡ answer_by number place s }
     {
@@ -221,6 +226,7 @@ impl Reading {
 
 // The settings of the card in the area, for a reader that knows the versions up to highest. Nothing beyond the
 // record is looked at, nor are silent bytes.
+#[tactic(auto, unfolding(crate::specs::Reading::read_card, crate::specs::Ranges::fault_of, leaf::specs::Checks::or_fault, leaf::specs::Bytes::word))]
 pub fn read(area: &[u8], highest: u8) -> Reading
     ensures { paper_of result ≡ read_card area.now highest }
 {
@@ -232,6 +238,7 @@ pub fn read(area: &[u8], highest: u8) -> Reading
 }
 
 // The card in the area: what the reader answers, with the version that the area states beside it.
+#[tactic(auto, unfolding(crate::specs::Reading::card_in))]
 pub fn card_in(area: &[u8], highest: u8) -> Found
     ensures { found_of result ≡ card_in area.now highest }
 {
@@ -261,6 +268,7 @@ fn write_refusal(version: u8, fine: bool, room: usize) -> u8
 
 impl Written {
     // The writer's answer by the number of the refusal that is due, 0 where none is; 5 comes with the place.
+    #[tactic(auto, unfolding(crate::specs::Reading::answer_by))]
     pub fn by_number(number: u8, place: u8) -> Written
         ensures { written_of result ≡ answer_by number place written }
     {
@@ -276,6 +284,7 @@ impl Written {
     }
 }
 
+#[tactic(auto, unfolding(crate::specs::Writing::write_card, crate::specs::Ranges::fault_of, leaf::specs::Checks::or_fault))]
 fn write_answer(version: u8, s: Settings, room: usize) -> Written
     ensures { written_of result ≡ write_card version s room }
 {
@@ -295,6 +304,7 @@ fn put(version: u8, s: Settings, buf: &mut [u8])
 
 // Writes the settings' record of this version at the buffer's start. Beyond the record the buffer stays as it was;
 // where the answer is a refusal, all of it does.
+#[tactic(auto, using(crate::specs::Laws::put_whole))]
 pub fn write(version: u8, s: Settings, buf: &mut [u8]) -> Written
     ensures result_value { written_of result ≡ write_card version s (length buf.old) }
     ensures buf_after { buf.new ≡ leaves (written_of result) version s buf.old }

@@ -133,6 +133,7 @@ fn row_fault(found: u8, kind: Kind, i: u8, row: Row) -> u8
 }
 
 // The rule applied to each row.
+#[tactic(auto, using(crate::proofs::Rows::rows_from))]
 fn rows_fault(found: u8, kind: Kind, s: Settings) -> u8
     ensures { result ≡ first_bad found (rows_checks kind 4 (rows_of s)) }
 {
@@ -146,6 +147,7 @@ fn rows_fault(found: u8, kind: Kind, s: Settings) -> u8
 }
 
 // Does each row meet the rule: what a session asks at each sample, for which no place is kept.
+#[tactic(auto, using(crate::proofs::Rows::rows_hold, crate::proofs::Rows::rows_out))]
 fn rows_inside(s: Settings) -> bool
     ensures { result ≡ all_hold true (rows_checks base_kind 4 (rows_of s)) }
 {

@@ -1,6 +1,0 @@
-use borrow.Author.Rules.{rules}
-use Rattle.card.proofs.ranges.y_inside.Statement.{statement}
-use Rattle.card.proofs.ranges.y_inside.Tie as tie
-
-pub y_inside_spec : {M : Type 1} → statement M
-y_inside_spec = tie.close (tie.spec (λ c κs. search rules) (λ c κs. search rules) (λ c. cc))
