@@ -1,5 +1,5 @@
 -- Document 01, "Controls": a row's curve. Speeds on the card are km/h, those of the curve hundredths of km/h.
-use Rattle.std.specs.Prelude.{ℕ, ◌+◌, ◌*◌, ◌-◌, max, leb}
+use Rattle.std.specs.Prelude.{ℕ, ◌*◌, ◌-◌, max, leb}
 use Rattle.leaf.specs.Choosing.{pick}
 use Rattle.card.specs.declared.Row.{Row}
 

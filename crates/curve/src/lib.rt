@@ -1,10 +1,13 @@
 // A row's curve: the speed that one row of the card gives at an age.
+#![tactic(auto)]
+
 ghost use Rattle.std.specs.Prelude.{◌≡◌, ◌*◌, ◌-◌};
 ghost use Rattle.curve.specs.Curve.{curve_of, fallen_of, row_speed};
 
 use card::Row;
 
 // Hundredths of km/h, `past` samples past the delay.
+#[tactic(auto, unfolding(crate::specs::Curve::fallen_of))]
 fn fallen(initial: u8, last: u8, drop: u8, past: u16) -> u32
     ensures { result ≡ fallen_of initial last drop past }
 {
@@ -23,6 +26,7 @@ fn past(age: u16, delay: u8) -> u16
 }
 
 // Hundredths of km/h at an age, of a row's four numbers.
+#[tactic(auto, unfolding(crate::specs::Curve::curve_of))]
 fn curve(initial: u8, last: u8, delay: u8, drop: u8, age: u16) -> u32
     ensures { result ≡ curve_of initial last delay drop age }
 {
@@ -35,6 +39,7 @@ fn curve(initial: u8, last: u8, delay: u8, drop: u8, age: u16) -> u32
 }
 
 // Hundredths of km/h that a row gives at an age.
+#[tactic(auto, unfolding(crate::specs::Curve::row_speed))]
 pub fn row_speed(row: Row, age: u16) -> u32
     ensures { result ≡ row_speed row age }
 {
