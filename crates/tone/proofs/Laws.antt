@@ -8,7 +8,7 @@ use native.Mathlib.Numerals.{add-one}
 use lib.ListN.{length, take, drop, set, drop_of_length-le, length-map}
 use lib.Seq.{drop-cons, take-suc-set, take_all}
 use lib.Dec.{T, leb, eqb}
-use lib.Ieee.{Float, nan, inf, fin, binary32, of_bits, of_int, nan_bits, is_nan, le, mul, div, sub}
+use lib.Ieee.{Float, nan, inf, fin, binary32, of_bits, of_int, nan_bits, is_nan, le, mul, div}
 use lib.Ieee.Bits.{nan_bits_above, nan_bits_is}
 use lib.Ieee.Fits.{and_i, and_l, and_r}
 use lib.Ieee.Scale.{finite}

@@ -3,6 +3,8 @@
 // Public are the reader of a sheet, the classifier, the code of a reading, and the f32 of a bit pattern. None has a
 // `requires`: a bad sheet is refused with 12 and the place of its first fault, and every bit pattern is a tone. Bytes
 // behind a sheet's 147 are not looked at.
+#![tactic(auto)]
+
 ghost use Rattle.std.specs.Prelude.{◌≡◌, ◌≤◌, ◌<◌};
 ghost use Rattle.std.specs.Float.{binary32};
 ghost use Rattle.std.specs.Float.Ieee.{of_bits};
@@ -190,6 +192,7 @@ impl Sheet {
     }
 
     // What the tone reads as under the first of the rows that it lies in.
+    #[tactic(auto, unfolding(crate::specs::Tones::read_from))]
     fn read(self, tone: f32) -> Reading
         ensures { result ≡ read_from 0 self.rows tone }
     {
@@ -217,6 +220,7 @@ fn refused(place: u8) -> SheetAnswer
 }
 
 // The sheet in the area, or refusal 12 with the place of the first fault and a blank sheet.
+#[tactic(auto, using(crate::proofs::Laws::is_whole, crate::proofs::Laws::not_whole, crate::proofs::Laws::paper_of_beside, crate::proofs::Laws::read_length, crate::proofs::Laws::read_place, crate::proofs::Laws::read_sound))]
 pub fn read_sheet(area: &[u8]) -> SheetAnswer
     ensures paper { paper_of_sheet result ≡ read_sheet area.now }
     ensures whole { result ≡ beside_of (read_sheet area.now) }
