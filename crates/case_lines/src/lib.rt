@@ -1,6 +1,8 @@
 // What the test programs read of a line: where its words begin, and the bytes that hexadecimal digits say.
 //
 // There is no `requires`: behind a line's end stands no mark and no digit.
+#![tactic(auto)]
+
 ghost use Rattle.std.specs.Prelude.{◌≡◌, ◌+◌, ◌≤◌, length, drop};
 ghost use Rattle.leaf.specs.Bytes.{byte};
 ghost use Rattle.text.specs.Hex.{hex_value};
