@@ -1,6 +1,5 @@
 -- Document 01, "The sample" and "Controls": the desk's members together. What lives and dies together is a part: `Brake`, `Beside`.
 use Rattle.std.specs.Prelude.{ℕ, Bool, true, false}
-use Rattle.leaf.specs.Choosing.{pick}
 use Rattle.signals.specs.declared.window.Window.{Window}
 use Rattle.signals.specs.declared.control.MainKind.{MainKind}
 use Rattle.signals.specs.declared.control.MainKind.TheVariants.{Clear, Start}

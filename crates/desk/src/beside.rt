@@ -58,6 +58,7 @@ impl Beside {
     }
 
     // One sample on, with a travel of m.
+    #[tactic(auto, unfolding(crate::specs::Beside::beside_older))]
     pub fn older(self, m: u32) -> Beside
         ensures { result ≡ beside_older m self }
     {

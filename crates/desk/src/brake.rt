@@ -30,6 +30,7 @@ impl Brake {
     }
 
     // The number of samples running without pulses, this one included.
+    #[tactic(auto, unfolding(crate::specs::Brake::stood_after))]
     fn stood_after(self, pulses: u16) -> u16
         ensures { result ≡ stood_after pulses self.stood }
     {
@@ -37,6 +38,7 @@ impl Brake {
     }
 
     // Is a sample with these pulses one at standstill.
+    #[tactic(auto, unfolding(crate::specs::Brake::standstill))]
     pub fn at_standstill(self, pulses: u16) -> bool
         ensures { result ≡ standstill pulses self }
     {
@@ -44,6 +46,7 @@ impl Brake {
     }
 
     // How many samples ago the brake came on, after a sample through which it stays on, or does not.
+    #[tactic(auto, unfolding(crate::specs::Brake::brake_age))]
     fn age_after(self, stays: bool) -> u16
         ensures { result ≡ brake_age stays self.age }
     {

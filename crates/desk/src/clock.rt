@@ -23,6 +23,7 @@ fn miss_cause(main: bool, side: bool, reminder: bool) -> u8
 }
 
 // Every age and distance one sample on, with the endings that they bring.
+#[tactic(auto, unfolding(crate::specs::Clock::desk_older))]
 fn older(d: Desk, m: u32) -> Desk
     ensures { result ≡ desk_older m d }
 {
@@ -48,6 +49,7 @@ fn older(d: Desk, m: u32) -> Desk
     }
 }
 
+#[tactic(auto, unfolding(crate::specs::Clock::reminded, signals::specs::Stop::reminded_of, signals::specs::Stop::first_met, signals::specs::Stop::second_met, signals::specs::Stop::reminder_missed))]
 fn remind(d: Desk, reminds: bool, x: u16, y: u16) -> Desk
     ensures { result ≡ reminded reminds x y d }
 {
@@ -61,6 +63,7 @@ fn remind(d: Desk, reminds: bool, x: u16, y: u16) -> Desk
 }
 
 // A main window that goes unanswered: beacon 1 counts as announcement.
+#[tactic(auto, unfolding(crate::specs::Clock::main_counts))]
 pub fn count_main(d: Desk) -> Desk
     ensures { result ≡ main_counts d }
 {
@@ -74,6 +77,7 @@ pub fn count_main(d: Desk) -> Desk
 }
 
 // A side window that goes unanswered: beacon 9 counts as unprotected crossing.
+#[tactic(auto, unfolding(crate::specs::Clock::side_counts))]
 pub fn count_side(d: Desk) -> Desk
     ensures { result ≡ side_counts d }
 {
@@ -86,6 +90,7 @@ pub fn count_side(d: Desk) -> Desk
     }
 }
 
+#[tactic(auto, unfolding(crate::specs::Clock::main_missed))]
 fn miss_main(d: Desk, missed: bool) -> Desk
     ensures { result ≡ main_missed missed d }
 {
@@ -96,6 +101,7 @@ fn miss_main(d: Desk, missed: bool) -> Desk
     }
 }
 
+#[tactic(auto, unfolding(crate::specs::Clock::side_missed))]
 fn miss_side(d: Desk, missed: bool) -> Desk
     ensures { result ≡ side_missed missed d }
 {
@@ -106,6 +112,7 @@ fn miss_side(d: Desk, missed: bool) -> Desk
     }
 }
 
+#[tactic(auto, unfolding(crate::specs::Clock::advanced, crate::specs::Clock::main_missed, crate::specs::Clock::reminded, crate::specs::Clock::desk_older, signals::specs::Windows::missed_of, signals::specs::Stop::reminder_missed, crate::specs::Clock::side_missed))]
 fn advance(d: Desk, m: u32, reminds: bool, x: u16, y: u16) -> Turn
     ensures { result ≡ advanced m reminds x y d }
 {
@@ -129,6 +136,7 @@ fn advance(d: Desk, m: u32, reminds: bool, x: u16, y: u16) -> Turn
 }
 
 // The first two steps of a sample, in the mode that it carries.
+#[tactic(auto, unfolding(crate::specs::Clock::begun))]
 pub fn begin(d: Desk, bts: bool, m: u32, reminds: bool, x: u16, y: u16) -> Turn
     ensures { result ≡ begun bts m reminds x y d }
 {

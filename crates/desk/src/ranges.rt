@@ -95,6 +95,7 @@ fn paired_inside(p: Paired) -> bool
     first_inside(first) & four_inside(limits)
 }
 
+#[tactic(auto, unfolding(crate::specs::Ranges::beside_inside))]
 fn beside_inside(b: Beside) -> bool
     ensures { result ≡ beside_inside b }
 {
@@ -109,6 +110,7 @@ fn beside_inside(b: Beside) -> bool
 }
 
 // Is every number of the desk in its range.
+#[tactic(auto, unfolding(crate::specs::Ranges::desk_inside))]
 pub fn desk_inside(d: Desk) -> bool
     ensures { result ≡ desk_inside d }
 {

@@ -127,6 +127,7 @@ impl Desk {
     }
 
     // A main control other than stop takes over, with the age and distance that its setting gives it.
+    #[tactic(auto, unfolding(crate::specs::State::taken_over))]
     pub fn take_over(self, kind: MainKind, age: u16, distance: u32) -> Desk
         ensures { result ≡ taken_over kind age distance self }
     {
@@ -138,6 +139,7 @@ impl Desk {
     }
 
     // An unprotected crossing is set, with the age and distance of its reading.
+    #[tactic(auto, unfolding(crate::specs::State::crossing_set))]
     pub fn set_unprotected(self, age: u16, distance: u32) -> Desk
         ensures { result ≡ crossing_set age distance self }
     {
@@ -146,6 +148,7 @@ impl Desk {
     }
 
     // The limit is set by a reading of this age, as it is read or by its answer.
+    #[tactic(auto, unfolding(crate::specs::State::limit_now))]
     pub fn set_limit(self, age: u16, answered: bool) -> Desk
         ensures { result ≡ limit_now answered age self }
     {
@@ -173,6 +176,7 @@ impl Desk {
 
     // The mode changes: entering BTS drops all, leaving drops all and sets start. Last code and brake stay, and for how long the desk has
     // stood.
+    #[tactic(auto, unfolding(crate::specs::State::mode_changed))]
     pub fn change_mode(self, bts: bool) -> Desk
         ensures { result ≡ mode_changed bts self }
     {
