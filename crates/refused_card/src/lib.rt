@@ -2,6 +2,8 @@
 // its place the setting that stands there, with its range.
 //
 // Each function types from the place `at` on, as those of `text` do. There is no `requires`.
+#![tactic(auto)]
+
 ghost use Rattle.std.specs.Prelude.{◌≡◌};
 ghost use Rattle.card.specs.Card.{length_of};
 ghost use Rattle.text.specs.Typing.{typed};

@@ -1,0 +1,7 @@
+use Rattle.refused_card.specs.Refused.{refused_text}
+use Rattle.text.specs.Typing.{then_typed}
+use Rattle.refused_card.proofs.put_refused.Goals as goal
+
+pub returns : goal.returns
+unfolding refused_text
+returns c = then_typed _ _ _ (then_typed _ _ _ (then_typed _ _ _ (then_typed _ _ _ (then_typed _ _ _ c.put_refusal-at.ensures c.put_text-at.ensures) c.put_reason-at.ensures) c.put_found-at.ensures) c.put_text-at-2.ensures) c.put_hint.ensures
