@@ -1,11 +1,10 @@
 -- How long the texts can be: a buffer of 4,096 bytes holds each whole, where the line has no more than 80 bytes.
-use Prim.Native.Nat.{ℕ, ◌-◌, ◌/◌, ◌+◌, ◌≤◌}
+use Prim.Native.Nat.{ℕ, ◌-◌, ◌/◌, ◌≤◌}
 use native.Mathlib.Omega.{arith}
 use mathlib.Core.List.{List, [], ◌++◌}
 use lib.Dec.{ltb, eqb}
-use lib.Ieee.{Float, binary32, of_bits, to_bits}
+use lib.Ieee.{binary32, of_bits, to_bits}
 use lib.ListN.{length, length-append}
-use Rattle.leaf.specs.Choosing.{pick}
 use Rattle.leaf.specs.Bytes.{byte, word}
 use Rattle.leaf.specs.Answers.{Answer, given, refused, refused_at}
 use Rattle.tone.specs.Tones.{VERSION, read_sheet, classify_of, code_of}

@@ -3,6 +3,8 @@
 // text, typed into a lent buffer.
 //
 // The functions type from the place `at` on, as those of `text` do. There is no `requires`.
+#![tactic(auto)]
+
 ghost use Rattle.std.specs.Prelude.{◌≡◌, ◌+◌, ◌*◌, ◌%◌, ◌≤◌};
 ghost use Rattle.std.specs.Float.Ieee.Scale.{finite};
 ghost use Rattle.leaf.specs.Answers.{refusal_of};

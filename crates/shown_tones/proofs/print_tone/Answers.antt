@@ -1,0 +1,5 @@
+use Rattle.text.specs.Typing.{held}
+use Rattle.shown_tones.proofs.print_tone.Goals as goal
+
+pub returns : goal.returns
+returns c = held _ _ _ c.put_line.ensures
