@@ -1,4 +1,6 @@
 // The third step of a sample: the buttons newly pressed, lowest bit first. A press serves one use: main, then side, then others.
+#![tactic(auto)]
+
 ghost use Rattle.std.specs.Prelude.{◌≡◌};
 ghost use Rattle.buttons.specs.Buttons.{chosen, answered_by, main_answered, side_answered, pressed, free_for, option_used, limit_removed, paired_removed, single_first, lowest_removed, reminder_answered, override_armed, stop_increased, limit_stepped, crossing_pressed, limit_pressed, override_pressed, increase_pressed, hide_pressed, pressed_among, window_presses, all_presses, presses_of};
 
@@ -14,6 +16,7 @@ use signals::stop::Override;
 use signals::window::Window;
 
 // What the button of this weight sets in answer to beacon 1 or 9, with the age and distance of that reading.
+#[tactic(auto, unfolding(crate::specs::Buttons::chosen))]
 fn choose(d: Desk, weight: u16, age: u16, distance: u32) -> Desk
     ensures { result ≡ chosen weight age distance d }
 {
@@ -27,6 +30,7 @@ fn choose(d: Desk, weight: u16, age: u16, distance: u32) -> Desk
     }
 }
 
+#[tactic(auto, unfolding(crate::specs::Buttons::answered_by))]
 fn answer_by(d: Desk, window: Window, weight: u16) -> Desk
     ensures { result ≡ answered_by weight window d }
 {
@@ -38,6 +42,7 @@ fn answer_by(d: Desk, window: Window, weight: u16) -> Desk
     }
 }
 
+#[tactic(auto, unfolding(crate::specs::Buttons::main_answered))]
 fn answer_main(d: Desk, right: bool, weight: u16) -> Desk
     ensures { result ≡ main_answered right weight d }
 {
@@ -49,6 +54,7 @@ fn answer_main(d: Desk, right: bool, weight: u16) -> Desk
     }
 }
 
+#[tactic(auto, unfolding(crate::specs::Buttons::side_answered))]
 fn answer_side(d: Desk, right: bool, weight: u16) -> Desk
     ensures { result ≡ side_answered right weight d }
 {
@@ -61,6 +67,7 @@ fn answer_side(d: Desk, right: bool, weight: u16) -> Desk
 }
 
 // A press of the button of this weight, as far as the windows have use for it.
+#[tactic(auto, unfolding(crate::specs::Buttons::pressed))]
 fn press(d: Desk, on: bool, weight: u16) -> Desk
     ensures { result ≡ pressed on weight d }
 {
@@ -73,6 +80,7 @@ fn press(d: Desk, on: bool, weight: u16) -> Desk
 }
 
 // Is the press left for other uses than the windows'.
+#[tactic(auto, unfolding(crate::specs::Buttons::free_for))]
 fn is_free(d: Desk, on: bool, weight: u16) -> bool
     ensures { result ≡ free_for on weight d }
 {
@@ -81,6 +89,7 @@ fn is_free(d: Desk, on: bool, weight: u16) -> bool
     on & !window.answers(weight) & !side.answers(weight)
 }
 
+#[tactic(auto, unfolding(crate::specs::Buttons::option_used))]
 fn use_option(d: Desk, used: bool) -> Desk
     ensures { result ≡ option_used used d }
 {
@@ -94,6 +103,7 @@ fn use_option(d: Desk, used: bool) -> Desk
     }
 }
 
+#[tactic(auto, unfolding(crate::specs::Buttons::limit_removed))]
 fn remove_limit(d: Desk, removed: bool) -> Desk
     ensures { result ≡ limit_removed removed d }
 {
@@ -105,6 +115,7 @@ fn remove_limit(d: Desk, removed: bool) -> Desk
 }
 
 // The paired limit of this speed goes; none where it is 0.
+#[tactic(auto, unfolding(crate::specs::Buttons::paired_removed))]
 fn remove_paired(d: Desk, speed: u8) -> Desk
     ensures { result ≡ paired_removed speed d }
 {
@@ -133,6 +144,7 @@ fn single_first(d: Desk, m: u32, row: Row, top: u32, speed: u8) -> bool
 }
 
 // The lowest limit that may go at m mm/s goes, of equal ones a paired one.
+#[tactic(auto, unfolding(crate::specs::Buttons::lowest_removed))]
 fn remove_lowest(d: Desk, free: bool, m: u32, row: Row, top: u32) -> Desk
     ensures { result ≡ lowest_removed free m row top d }
 {
@@ -148,6 +160,7 @@ fn remove_lowest(d: Desk, free: bool, m: u32, row: Row, top: u32) -> Desk
     d
 }
 
+#[tactic(auto, unfolding(crate::specs::Buttons::reminder_answered))]
 fn answer_reminder(d: Desk, right: bool) -> Desk
     ensures { result ≡ reminder_answered right d }
 {
@@ -159,6 +172,7 @@ fn answer_reminder(d: Desk, right: bool) -> Desk
     }
 }
 
+#[tactic(auto, unfolding(crate::specs::Buttons::override_armed))]
 fn arm_override(d: Desk, arms: bool) -> Desk
     ensures { result ≡ override_armed arms d }
 {
@@ -169,6 +183,7 @@ fn arm_override(d: Desk, arms: bool) -> Desk
     }
 }
 
+#[tactic(auto, unfolding(crate::specs::Buttons::stop_increased))]
 fn increase_stop(d: Desk, used: bool) -> Desk
     ensures { result ≡ stop_increased used d }
 {
@@ -180,6 +195,7 @@ fn increase_stop(d: Desk, used: bool) -> Desk
     }
 }
 
+#[tactic(auto, unfolding(crate::specs::Buttons::limit_stepped))]
 fn step_limit(d: Desk, used: bool) -> Desk
     ensures { result ≡ limit_stepped used d }
 {
@@ -188,6 +204,7 @@ fn step_limit(d: Desk, used: bool) -> Desk
 }
 
 // Button 5: the windows, then beacon 3's option.
+#[tactic(auto, unfolding(crate::specs::Buttons::crossing_pressed, crate::specs::Buttons::pressed, crate::specs::Buttons::option_used, crate::specs::Buttons::free_for, crate::specs::Buttons::side_answered, signals::specs::Windows::answers_of, crate::specs::Buttons::main_answered, sides::specs::Crossing::protected_set))]
 fn press_crossing(d: Desk, on: bool) -> Desk
     ensures { result ≡ crossing_pressed on d }
 {
@@ -200,6 +217,7 @@ fn press_crossing(d: Desk, on: bool) -> Desk
 }
 
 // Button 6: the windows, then the lowest limit that may go.
+#[tactic(auto, unfolding(crate::specs::Buttons::limit_pressed, crate::specs::Buttons::lowest_removed, crate::specs::Buttons::pressed, crate::specs::Buttons::free_for, sides::specs::Pairs::lowest_to_go, crate::specs::Buttons::limit_removed, crate::specs::Buttons::paired_removed, crate::specs::Buttons::side_answered, signals::specs::Windows::answers_of, crate::specs::Buttons::main_answered, sides::specs::Limit::stepped_final, sides::specs::Limit::removable))]
 fn press_limit(d: Desk, on: bool, m: u32, row: Row, top: u32) -> Desk
     ensures { result ≡ limit_pressed on m row top d }
 {
@@ -211,6 +229,7 @@ fn press_limit(d: Desk, on: bool, m: u32, row: Row, top: u32) -> Desk
 }
 
 // Button 7: a lit reminder, or else the override. Both are dead in BTS.
+#[tactic(auto, unfolding(crate::specs::Buttons::override_pressed))]
 fn press_override(d: Desk, on: bool) -> Desk
     ensures { result ≡ override_pressed on d }
 {
@@ -222,6 +241,7 @@ fn press_override(d: Desk, on: bool) -> Desk
 }
 
 // Button 8: stop, where it has use for it, or else the limit.
+#[tactic(auto, unfolding(crate::specs::Buttons::increase_pressed))]
 fn press_increase(d: Desk, on: bool, pairs: bool, row: Row, top: u32) -> Desk
     ensures { result ≡ increase_pressed on pairs row top d }
 {
@@ -234,6 +254,7 @@ fn press_increase(d: Desk, on: bool, pairs: bool, row: Row, top: u32) -> Desk
 }
 
 // Button 9.
+#[tactic(auto, unfolding(crate::specs::Buttons::hide_pressed))]
 fn press_hide(d: Desk, on: bool) -> Desk
     ensures { result ≡ hide_pressed on d }
 {
@@ -242,6 +263,7 @@ fn press_hide(d: Desk, on: bool) -> Desk
 }
 
 // A press of the button of this weight, where it is among b, as far as the windows have use for it.
+#[tactic(auto, unfolding(crate::specs::Buttons::pressed, crate::specs::Buttons::side_answered, signals::specs::Windows::answers_of, crate::specs::Buttons::main_answered))]
 fn press_among(d: Desk, b: u16, weight: u16) -> Desk
     ensures { result ≡ pressed_among b weight d }
 {
@@ -253,6 +275,7 @@ fn press_among(d: Desk, b: u16, weight: u16) -> Desk
 }
 
 // Buttons 0 to 4: only windows have use for them.
+#[tactic(auto, unfolding(crate::specs::Buttons::window_presses))]
 fn press_answers(d: Desk, b: u16) -> Desk
     ensures { result ≡ window_presses b d }
 {
@@ -263,6 +286,7 @@ fn press_answers(d: Desk, b: u16) -> Desk
     press_among(d, b, button::BEFORE_STOP)
 }
 
+#[tactic(auto, unfolding(crate::specs::Buttons::all_presses))]
 fn press_all(d: Desk, b: u16, m: u32, pairs: bool, row: Row, top: u32) -> Desk
     ensures { result ≡ all_presses b m pairs row top d }
 {
@@ -275,6 +299,7 @@ fn press_all(d: Desk, b: u16, m: u32, pairs: bool, row: Row, top: u32) -> Desk
 }
 
 // The buttons b of a sample at m mm/s; `pairs` says that the card has pairs, `row` is row 6, `top` is T. Rearm belongs to the brake.
+#[tactic(auto, unfolding(crate::specs::Buttons::presses_of))]
 pub fn take_buttons(d: Desk, b: u16, m: u32, pairs: bool, row: Row, top: u32) -> Desk
     ensures { result ≡ presses_of b m pairs row top d }
 {
