@@ -1,4 +1,6 @@
 // The fourth step of a sample: the beacon.
+#![tactic(auto)]
+
 ghost use Rattle.std.specs.Prelude.{◌≡◌};
 ghost use Rattle.beacons.specs.Beacons.{is_beacon, is_side, reads_of, main_opened, side_opened, reading1, reading_row, option_offered, reading3, reading4, reading7, reminded_after, stopped, reading8, reading9, reading_single, speed_of_pair, first_kept, reading_first, drops_single, single_dropped, pair_set, reading_second, reading_paired, reading_limit, reading_of, read_if, beacon_taken};
 
@@ -41,6 +43,7 @@ fn reminder_after(armed: bool) -> Reminder
 }
 
 // Is a beacon of this code read.
+#[tactic(auto, unfolding(crate::specs::Beacons::reads_of))]
 fn reads(d: Desk, code: u8, reads_in_bts: bool) -> bool
     ensures { result ≡ reads_of code reads_in_bts d.bts d.code }
 {
@@ -50,6 +53,7 @@ fn reads(d: Desk, code: u8, reads_in_bts: bool) -> bool
 }
 
 // A main window for this reading, in the place of the one that is open.
+#[tactic(auto, unfolding(crate::specs::Beacons::main_opened))]
 fn open_main(d: Desk, waits: Waits) -> Desk
     ensures { result ≡ main_opened waits d }
 {
@@ -57,6 +61,7 @@ fn open_main(d: Desk, waits: Waits) -> Desk
     d.with_window(Window::opened(waits, window.time_left(MISS_TIME)))
 }
 
+#[tactic(auto, unfolding(crate::specs::Beacons::side_opened))]
 fn open_side(d: Desk, waits: Waits) -> Desk
     ensures { result ≡ side_opened waits d }
 {
@@ -64,6 +69,7 @@ fn open_side(d: Desk, waits: Waits) -> Desk
     d.with_side(Window::opened(waits, side.time_left(MISS_TIME)))
 }
 
+#[tactic(auto, unfolding(crate::specs::Beacons::reading1))]
 fn read_1(d: Desk) -> Desk
     ensures { result ≡ reading1 d }
 {
@@ -71,12 +77,14 @@ fn read_1(d: Desk) -> Desk
 }
 
 // Beacons 2, 5 and 6, and 7 outside the stop zone.
+#[tactic(auto, unfolding(crate::specs::Beacons::reading_row))]
 fn read_row(d: Desk, kind: MainKind, waits: Waits) -> Desk
     ensures { result ≡ reading_row kind waits d }
 {
     open_main(count_main(d).take_over(kind, 0, 0), waits)
 }
 
+#[tactic(auto, unfolding(crate::specs::Beacons::option_offered))]
 fn offer_option(d: Desk, protects: bool) -> Desk
     ensures { result ≡ option_offered protects d }
 {
@@ -87,6 +95,7 @@ fn offer_option(d: Desk, protects: bool) -> Desk
     }
 }
 
+#[tactic(auto, unfolding(crate::specs::Beacons::reading3))]
 fn read_3(d: Desk, protects: bool) -> Desk
     ensures { result ≡ reading3 protects d }
 {
@@ -96,6 +105,7 @@ fn read_3(d: Desk, protects: bool) -> Desk
     offer_option(d, protects)
 }
 
+#[tactic(auto, unfolding(crate::specs::Beacons::reading4))]
 fn read_4(d: Desk, protects: bool) -> Desk
     ensures { result ≡ reading4 protects d }
 {
@@ -107,6 +117,7 @@ fn read_4(d: Desk, protects: bool) -> Desk
     }
 }
 
+#[tactic(auto, unfolding(crate::specs::Beacons::reading7, crate::specs::Beacons::zone_met))]
 fn read_7(d: Desk, zones: bool) -> Desk
     ensures { result ≡ reading7 zones d }
 {
@@ -122,6 +133,7 @@ fn read_7(d: Desk, zones: bool) -> Desk
 }
 
 // Stop is set: it uses up the override and ends the stop alongside.
+#[tactic(auto, unfolding(crate::specs::Beacons::stopped))]
 fn stop(d: Desk) -> Desk
     ensures { result ≡ stopped d }
 {
@@ -133,12 +145,14 @@ fn stop(d: Desk) -> Desk
         .with_window(Window::closed())
 }
 
+#[tactic(auto, unfolding(crate::specs::Beacons::reading8))]
 fn read_8(d: Desk) -> Desk
     ensures { result ≡ reading8 d }
 {
     stop(count_main(d))
 }
 
+#[tactic(auto, unfolding(crate::specs::Beacons::reading9))]
 fn read_9(d: Desk) -> Desk
     ensures { result ≡ reading9 d }
 {
@@ -146,6 +160,7 @@ fn read_9(d: Desk) -> Desk
 }
 
 // A beacon 10 or 11 that is in no pair, or not yet.
+#[tactic(auto, unfolding(crate::specs::Beacons::reading_single))]
 fn read_single(d: Desk) -> Desk
     ensures { result ≡ reading_single d }
 {
@@ -155,6 +170,7 @@ fn read_single(d: Desk) -> Desk
 // ---- pairs of limit beacons
 
 // The speed of the pair that a 10 or 11 makes with its first, km/h.
+#[tactic(auto, unfolding(crate::specs::Beacons::speed_of_pair))]
 fn speed_of_pair(pairs: Pairs, first: First, code: u8) -> u8
     ensures { result ≡ speed_of_pair pairs first code }
 {
@@ -165,6 +181,7 @@ fn speed_of_pair(pairs: Pairs, first: First, code: u8) -> u8
 }
 
 // It is remembered as the first.
+#[tactic(auto, unfolding(crate::specs::Beacons::first_kept))]
 fn keep_first(d: Desk, code: u8, own: bool) -> Desk
     ensures { result ≡ first_kept code own d }
 {
@@ -176,6 +193,7 @@ fn keep_first(d: Desk, code: u8, own: bool) -> Desk
 }
 
 // The first of a pair, or one that stays alone.
+#[tactic(auto, unfolding(crate::specs::Beacons::reading_first))]
 fn read_first(d: Desk, code: u8) -> Desk
     ensures { result ≡ reading_first code d }
 {
@@ -185,6 +203,7 @@ fn read_first(d: Desk, code: u8) -> Desk
 }
 
 // The first's limit is dropped: its own, and nothing else has set it since.
+#[tactic(auto, unfolding(crate::specs::Beacons::single_dropped))]
 fn drop_single(d: Desk) -> Desk
     ensures { result ≡ single_dropped d }
 {
@@ -197,6 +216,7 @@ fn drop_single(d: Desk) -> Desk
 }
 
 // The pair's limit is set, and no first is left.
+#[tactic(auto, unfolding(crate::specs::Beacons::pair_set))]
 fn set_pair(d: Desk, speed: u8) -> Desk
     ensures { result ≡ pair_set speed d }
 {
@@ -208,12 +228,14 @@ fn set_pair(d: Desk, speed: u8) -> Desk
     drop_single(d).with_paired(paired)
 }
 
+#[tactic(auto, unfolding(crate::specs::Beacons::reading_second))]
 fn read_second(d: Desk, speed: u8) -> Desk
     ensures { result ≡ reading_second speed d }
 {
     open_side(set_pair(count_side(d), speed), Waits::Limit)
 }
 
+#[tactic(auto, unfolding(crate::specs::Beacons::reading_paired))]
 fn read_paired(d: Desk, code: u8, pairs: Pairs) -> Desk
     ensures { result ≡ reading_paired code pairs d }
 {
@@ -228,6 +250,7 @@ fn read_paired(d: Desk, code: u8, pairs: Pairs) -> Desk
 }
 
 // Beacons 10 and 11; `paired` says that the card has pairs.
+#[tactic(auto, unfolding(crate::specs::Beacons::reading_limit))]
 fn read_limit(d: Desk, code: u8, paired: bool, pairs: Pairs) -> Desk
     ensures { result ≡ reading_limit code paired pairs d }
 {
@@ -239,6 +262,7 @@ fn read_limit(d: Desk, code: u8, paired: bool, pairs: Pairs) -> Desk
 
 // ---- the step
 
+#[tactic(auto, unfolding(crate::specs::Beacons::reading_of))]
 fn read(d: Desk, code: u8, protects: bool, zones: bool, paired: bool, pairs: Pairs) -> Desk
     ensures { result ≡ reading_of code protects zones paired pairs d }
 {
@@ -256,6 +280,7 @@ fn read(d: Desk, code: u8, protects: bool, zones: bool, paired: bool, pairs: Pai
     }
 }
 
+#[tactic(auto, unfolding(crate::specs::Beacons::read_if))]
 fn read_if(
     d: Desk,
     acts: bool,
@@ -276,6 +301,7 @@ fn read_if(
 
 // The beacon's step, with three of the card's functions: protected crossing, stop zone, BTS reads beacons; whether it has pairs of limit beacons,
 // and their speeds and distance.
+#[tactic(auto, unfolding(crate::specs::Beacons::beacon_taken))]
 pub fn take_beacon(
     d: Desk,
     code: u8,
