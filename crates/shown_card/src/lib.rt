@@ -2,6 +2,8 @@
 // the record; or why the card is refused. It is one text, typed into a lent buffer.
 //
 // Each function types from the place `at` on, as those of `text` do. There is no public `requires`.
+#![tactic(auto)]
+
 ghost use Rattle.std.specs.Prelude.{◌≡◌, ◌≤◌, length, take, drop};
 ghost use Rattle.leaf.specs.Answers.{given};
 ghost use Rattle.text.specs.Typing.{typed, Held};
