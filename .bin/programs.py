@@ -81,10 +81,27 @@ def lent(data):
     return file
 
 
+def opened(argument):
+    """A file whose name is no UTF-8, by a name that is one: a path is text to the program. It is open until this program ends."""
+    try:
+        os.fsencode(argument).decode("utf-8")
+        return argument
+    except UnicodeDecodeError:
+        pass
+    try:
+        fd = os.open(argument, os.O_RDONLY)
+        os.read(fd, 0)  # a folder can be opened, and not read
+    except OSError:
+        return argument
+    os.set_inheritable(fd, True)
+    return f"/dev/fd/{fd}"
+
+
 def pass_on(name, arguments, stdin=None, put=bytes):
     """Runs a program and passes each of its lines on as soon as it is whole, as `put` has it. Answers what was heard. Where the output
     is lost the program has nothing left to do."""
     heard = Heard(name)
+    arguments = [*map(opened, arguments[:1]), *arguments[1:]]
     with subprocess.Popen(command(name) + arguments, stdin=stdin, stdout=subprocess.PIPE, stderr=subprocess.PIPE,
                           close_fds=False) as program:  # an argument may be /dev/fd/63
         try:
