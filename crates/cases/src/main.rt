@@ -11,8 +11,11 @@
 // Everything behind the first word is hexadecimal, two digits a byte; blanks between bytes are passed over. A card that is read is
 // answered with its settings in the card's order, one that is written with the whole buffer afterwards, `-` where it is empty, a tone
 // with its offset's bit pattern and the ride's beacon code.
+#![tactic(auto)]
+
 use card::{Pairs, Reading, Row, Settings, Written};
 use leaf::{Refusal, byte_at, choose8, less, long_at, word_at};
+use shell::System;
 use text::{hex_digit, put, put_float, put_hex, put_labelled, put_refusal, put_text};
 use tone::ToneAnswer;
 
@@ -334,24 +337,24 @@ fn put_answer(out: &mut [u8], at: usize, area: &mut [u8; MOST], length: u8, line
 }
 
 // The line again, with what is answered to it where it is a case.
-fn say_line(area: &mut [u8; MOST], length: u8, line: &[u8]) {
-    let mut out = io::buffer();
+fn say_line(rt: &impl System, area: &mut [u8; MOST], length: u8, line: &[u8]) {
+    let mut out = [0u8; 4096];
     let at = put_text(&mut out, 0, line);
     if byte_at(line, 0) == b'#' {
         let n = put(&mut out, at, b'\n');
-        shell::say_first(&out, n);
+        shell::say_first(rt, &out, n);
         return;
     }
     let at = put(&mut out, at, b':');
     let at = put_answer(&mut out, at, area, length, line);
     let n = put(&mut out, at, b'\n');
-    shell::say_first(&out, n);
+    shell::say_first(rt, &out, n);
 }
 
 // The next line: how many bytes the area has behind it, of which it had so many before; 256 where there is no line.
-fn one_line(area: &mut [u8; MOST], length: u8) -> u16 {
-    let mut space = io::buffer();
-    let got = shell::read_line(&mut space);
+fn one_line(rt: &impl System, area: &mut [u8; MOST], length: u8) -> u16 {
+    let mut space = [0u8; 4096];
+    let got = shell::read_line(rt, &mut space);
     if !got.is_there {
         return NO_LINE;
     }
@@ -360,17 +363,17 @@ fn one_line(area: &mut [u8; MOST], length: u8) -> u16 {
     if byte_at(line, 0) == b'a' {
         return bytes_of(line, area) as u16;
     }
-    say_line(area, length, line);
+    say_line(rt, area, length, line);
     length as u16
 }
 
 // Nothing says that an input ends, so the lines are counted down from a number that no input uses up.
-fn main() {
+fn main(rt: HostRuntime) {
     let mut area = [0u8; MOST];
     let mut length: u8 = 0;
     let mut left = u64::MAX;
     while left > 0 {
-        let next = one_line(&mut area, length);
+        let next = one_line(&rt, &mut area, length);
         if next == NO_LINE {
             return;
         }

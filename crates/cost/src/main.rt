@@ -2,9 +2,12 @@
 // answers is printed. tests/cost has the same in C, and the measurement.
 //
 // Standard input, big-endian: 49 bytes with the card at their start, two with the number of rounds, the recording.
+#![tactic(auto)]
+
 use card::{Card, Found, card_in};
 use leaf::{Refusal, byte_at, long_at, word_at};
 use session::{Opened, Outcome, Sample, Session};
+use shell::System;
 use step::Answer;
 
 // Two sums: of speeds, and of all else.
@@ -116,37 +119,31 @@ fn samples_of(length: u32) -> u16 {
     ((leaf::less(length, 6) / 6) % 65536) as u16
 }
 
-fn ride(s: &[u8], card: Card) {
+fn ride(rt: &impl System, s: &[u8], card: Card) {
     let rounds = word_at(s, 49);
     let samples = samples_of(long_at(s, 51));
     let opened = Session::open(card, byte_at(s, 56));
     match opened {
         Opened::Ready(session) => {
             let sums = run(s, session, samples, rounds);
-            io::print_hex(1, sums.speeds as u64, 8);
-            io::print_hex(1, sums.rest as u64, 8);
-            io::write_all(1, b"\n");
+            let _ = println!(rt; "{:08x}{:08x}", sums.speeds, sums.rest);
         }
         Opened::Refused(refusal) => {
-            io::write_all(1, b"refused ");
-            io::print_decimal(1, number_of(refusal) as u64);
-            io::write_all(1, b"\n");
+            let _ = println!(rt; "refused {}", number_of(refusal));
         }
     }
 }
 
-fn main() {
-    let mut s = io::large_buffer();
-    io::read_full(0, &mut s);
+fn main(rt: HostRuntime) {
+    let mut s = [0u8; 65536];
+    shell::read_input(&rt, &mut s);
     let found = card_in(&s, 3);
     match found {
         Found::Read(card) => {
-            ride(&s, card);
+            ride(&rt, &s, card);
         }
         Found::Refused(refusal) => {
-            io::write_all(1, b"refused ");
-            io::print_decimal(1, number_of(refusal) as u64);
-            io::write_all(1, b"\n");
+            let _ = println!(rt; "refused {}", number_of(refusal));
         }
     }
 }

@@ -6,12 +6,15 @@
 // arguments, is answered with the usage.
 //
 // All that is printed is a text of `printed_pieces`. The bytes read and written are the system's, of which no contract speaks.
+#![tactic(auto)]
+
 ghost use Rattle.std.specs.Prelude.{◌≡◌, length};
 ghost use Rattle.receive.specs.Size.{next_size, size_in};
 
 use printed::{Columns, Form};
 use printed_pieces::{Printed, print_end, print_piece, print_start};
 use receiver::{Receiver, Started, Status};
+use shell::System;
 use text::hex_digit;
 
 const DEFAULT_SIZE: u16 = 64;
@@ -50,18 +53,18 @@ fn size_in(word: &[u8]) -> u16
 }
 
 // The size that the second argument says, 0 where it says none. One of more than four bytes is not handed out.
-fn size_said() -> u16 {
+fn size_said(rt: &impl System) -> u16 {
     let mut word = [0u8; 4];
-    let n = os::arg(2, &mut word);
+    let n = shell::argument(rt, 2, &mut word);
     size_in(&word[..n])
 }
 
 // The size asked for, 0 where the arguments are not those of the usage.
-fn size_asked() -> u16 {
-    let arguments = os::arg_count();
+fn size_asked(rt: &impl System) -> u16 {
+    let arguments = shell::argument_count(rt);
     match arguments {
         2 => DEFAULT_SIZE,
-        3 => size_said(),
+        3 => size_said(rt),
         _ => 0,
     }
 }
@@ -98,11 +101,11 @@ fn printed_of(receiver: Receiver, piece: &[u8], text: &mut [u8]) -> Printed {
     print_piece(Columns::Paper, receiver, piece, text)
 }
 
-fn say_piece(receiver: Receiver, piece: &[u8], text: &mut [u8]) -> Turn {
+fn say_piece(rt: &impl System, receiver: Receiver, piece: &[u8], text: &mut [u8]) -> Turn {
     let printed = printed_of(receiver, piece, text);
     let after = printed.receiver;
     let status = after.status;
-    let is_said = shell::say_first(text, printed.length);
+    let is_said = shell::say_first(rt, text, printed.length);
     Turn {
         receiver: after,
         goes_on: is_said & is_open(status),
@@ -110,9 +113,9 @@ fn say_piece(receiver: Receiver, piece: &[u8], text: &mut [u8]) -> Turn {
 }
 
 // One read, and what it shows.
-fn one_read(receiver: Receiver, size: u16, text: &mut [u8]) -> Turn {
-    let mut space = io::buffer();
-    let piece = shell::read_piece(size as usize, &mut space);
+fn one_read(rt: &impl System, receiver: Receiver, size: u16, text: &mut [u8]) -> Turn {
+    let mut space = [0u8; 4096];
+    let piece = shell::read_piece(rt, size as usize, &mut space);
     if !piece.is_read {
         return Turn {
             receiver,
@@ -120,15 +123,15 @@ fn one_read(receiver: Receiver, size: u16, text: &mut [u8]) -> Turn {
         };
     }
     let n = piece.length;
-    say_piece(receiver, &space[..n], text)
+    say_piece(rt, receiver, &space[..n], text)
 }
 
 // Nothing says that a line ends, so the reads are counted down from a number that no line uses up.
-fn receive(receiver: Receiver, size: u16, text: &mut [u8]) {
+fn receive(rt: &impl System, receiver: Receiver, size: u16, text: &mut [u8]) {
     let mut going = receiver;
     let mut left = u64::MAX;
     while left > 0 {
-        let next = one_read(going, size, text);
+        let next = one_read(rt, going, size, text);
         if !next.goes_on {
             return;
         }
@@ -138,27 +141,27 @@ fn receive(receiver: Receiver, size: u16, text: &mut [u8]) {
 }
 
 // The start on this card, below the heading of h bytes, and then the line.
-fn say_below(card: &[u8], h: usize, size: u16) {
+fn say_below(rt: &impl System, card: &[u8], h: usize, size: u16) {
     let mut text = text_room();
     let begun = print_start(Columns::Paper, card, &mut text);
-    shell::say_part(&text, h, begun.length);
+    shell::say_part(rt, &text, h, begun.length);
     let started = begun.started;
     match started {
-        Started::Ready(receiver) => receive(receiver, size, &mut text),
+        Started::Ready(receiver) => receive(rt, receiver, size, &mut text),
         Started::Refused(_) => (),
     }
 }
 
-fn main() {
-    let size = size_asked();
+fn main(rt: HostRuntime) {
+    let size = size_asked(&rt);
     if size == 0 {
-        shell::warn(b"usage: receive CARD [SIZE] < LINE\n");
+        shell::warn(&rt, b"usage: receive CARD [SIZE] < LINE\n");
         return;
     }
-    let mut space = io::buffer();
-    let card = ride_shell::card_below(Form::Answers(Columns::Paper), &mut space);
+    let mut space = [0u8; 4096];
+    let card = ride_shell::card_below(&rt, Form::Answers(Columns::Paper), &mut space);
     let n = card.length;
     if card.is_read {
-        say_below(&space[..n], card.heading, size);
+        say_below(&rt, &space[..n], card.heading, size);
     }
 }

@@ -7,11 +7,14 @@
 //
 // Digits are hexadecimal, two a byte; a card of no bytes is `-`. tests/compare/README.md has the rest. What no line can bring is
 // brought here: empty pieces, more than one end, and bytes behind an end.
+#![tactic(auto)]
+
 use case_lines::{behind, unhex};
 use leaf::byte_at;
 use printed::{Columns, Form, print_heading};
 use printed_pieces::{Printed, print_end, print_piece, print_start};
 use receiver::{Receiver, Started, Status};
+use shell::System;
 use text::{put, put_ended, put_labelled, put_text};
 
 // ---- what a call shows
@@ -38,10 +41,10 @@ fn put_status(out: &mut [u8], at: usize, status: Status) -> usize {
 }
 
 // The answers' lines, which end here in the text, and the status behind them.
-fn say_lines(text: &mut [u8], end: usize, status: Status) {
+fn say_lines(rt: &impl System, text: &mut [u8], end: usize, status: Status) {
     let at = put_status(text, end, status);
     let n = put(text, at, b'\n');
-    shell::say_first(text, n);
+    shell::say_first(rt, text, n);
 }
 
 // How many lines a call shows, and the mark of all lines so far.
@@ -68,30 +71,38 @@ fn tallied(text: &[u8], n: usize, mark: u32) -> Tally {
 }
 
 // A piece's count of lines and the status behind it; of the end the status and the mark.
-fn say_tally(tally: Tally, sign: u8, status: Status) {
-    let mut line = io::buffer();
+fn say_tally(rt: &impl System, tally: Tally, sign: u8, status: Status) {
+    let mut line = [0u8; 4096];
     if sign == b'.' {
         let at = put_status(&mut line, 0, status);
         let at = put_labelled(&mut line, at, b", mark ", tally.mark);
         let n = put(&mut line, at, b'\n');
-        shell::say_first(&line, n);
+        shell::say_first(rt, &line, n);
         return;
     }
     let at = put_ended(&mut line, 0, tally.lines, b' ');
     let at = put_status(&mut line, at, status);
     let n = put_text(&mut line, at, b", ");
-    shell::say_first(&line, n);
+    shell::say_first(rt, &line, n);
 }
 
 // What the call with this sign shows, in full or counted, where its text has n bytes. Answers the mark after it.
-fn say_shown(in_full: bool, sign: u8, text: &mut [u8], n: usize, status: Status, mark: u32) -> u32 {
+fn say_shown(
+    rt: &impl System,
+    in_full: bool,
+    sign: u8,
+    text: &mut [u8],
+    n: usize,
+    status: Status,
+    mark: u32,
+) -> u32 {
     let end = answers_end(text, n);
     if in_full {
-        say_lines(text, end, status);
+        say_lines(rt, text, end, status);
         return mark;
     }
     let tally = tallied(text, end, mark);
-    say_tally(tally, sign, status);
+    say_tally(rt, tally, sign, status);
     tally.mark
 }
 
@@ -106,9 +117,9 @@ fn called(receiver: Receiver, sign: u8, piece: &[u8], text: &mut [u8]) -> Printe
 }
 
 // All calls; each takes a byte of them or more, so that there are no more calls than bytes.
-fn say_calls(in_full: bool, receiver: Receiver, calls: &[u8]) {
-    let mut space = io::large_buffer();
-    let mut text = io::large_buffer();
+fn say_calls(rt: &impl System, in_full: bool, receiver: Receiver, calls: &[u8]) {
+    let mut space = [0u8; 65536];
+    let mut text = [0u8; 65536];
     let mut going = receiver;
     let mut mark: u32 = 0;
     let mut i = 0;
@@ -125,7 +136,7 @@ fn say_calls(in_full: bool, receiver: Receiver, calls: &[u8]) {
         let printed = called(going, sign, &space[..n], &mut text);
         going = printed.receiver;
         let status = going.status;
-        mark = say_shown(in_full, sign, &mut text, printed.length, status, mark);
+        mark = say_shown(rt, in_full, sign, &mut text, printed.length, status, mark);
         left -= 1;
     }
 }
@@ -152,18 +163,18 @@ fn put_cut(calls: &mut [u8], digits: &[u8], place: usize) -> usize {
     put_text(calls, at, b"/.")
 }
 
-fn say_place(place: usize) {
-    let mut line = io::buffer();
+fn say_place(rt: &impl System, place: usize) {
+    let mut line = [0u8; 4096];
     let at = put_ended(&mut line, 0, (place % 65536) as u32, b':');
     let n = put(&mut line, at, b' ');
-    shell::say_first(&line, n);
+    shell::say_first(rt, &line, n);
 }
 
-fn say_cut(receiver: Receiver, digits: &[u8], place: usize) {
-    let mut calls = io::large_buffer();
+fn say_cut(rt: &impl System, receiver: Receiver, digits: &[u8], place: usize) {
+    let mut calls = [0u8; 65536];
     let n = put_cut(&mut calls, digits, place);
-    say_place(place);
-    say_calls(false, receiver, first(&calls, n));
+    say_place(rt, place);
+    say_calls(rt, false, receiver, first(&calls, n));
 }
 
 // Is the recording cut here. A step of 0, which no case has, is one of 1.
@@ -172,16 +183,16 @@ fn is_cut(place: usize, step: u8) -> bool {
     if far > 0 { place % far == 0 } else { true }
 }
 
-fn say_cuts(receiver: Receiver, digits: &[u8], step: u8) {
+fn say_cuts(rt: &impl System, receiver: Receiver, digits: &[u8], step: u8) {
     let n = digits.len() / 2;
     let mut place = 0;
     while place < n {
         if is_cut(place, step) {
-            say_cut(receiver, digits, place);
+            say_cut(rt, receiver, digits, place);
         }
         place += 1;
     }
-    say_cut(receiver, digits, n);
+    say_cut(rt, receiver, digits, n);
 }
 
 // ---- the cases
@@ -193,33 +204,33 @@ enum Way {
     Cuts(u8),
 }
 
-fn go(way: Way, receiver: Receiver, word: &[u8]) {
+fn go(rt: &impl System, way: Way, receiver: Receiver, word: &[u8]) {
     match way {
-        Way::Pieces => say_calls(true, receiver, word),
-        Way::Cuts(step) => say_cuts(receiver, word, step),
+        Way::Pieces => say_calls(rt, true, receiver, word),
+        Way::Cuts(step) => say_cuts(rt, receiver, word, step),
     }
 }
 
 // On this card: its refusal, which stands below the heading of h bytes, or what the word behind it asks.
-fn start(way: Way, card: &[u8], h: usize, word: &[u8]) {
-    let mut text = io::buffer();
+fn start(rt: &impl System, way: Way, card: &[u8], h: usize, word: &[u8]) {
+    let mut text = [0u8; 4096];
     let begun = print_start(Columns::Paper, card, &mut text);
-    shell::say_part(&text, h, begun.length);
+    shell::say_part(rt, &text, h, begun.length);
     let started = begun.started;
     match started {
-        Started::Ready(receiver) => go(way, receiver, word),
+        Started::Ready(receiver) => go(rt, way, receiver, word),
         Started::Refused(_) => (),
     }
 }
 
 // The card from this place of the line on, and the word behind it.
-fn start_at(way: Way, line: &[u8], from: usize) {
-    let mut space = io::large_buffer();
+fn start_at(rt: &impl System, way: Way, line: &[u8], from: usize) {
+    let mut space = [0u8; 65536];
     let h = print_heading(Form::Answers(Columns::Paper), &mut space);
     let card = unhex(line, from, &mut space);
     let n = card.length;
     let word = behind(line, from, b' ');
-    start(way, &space[..n], h, &line[word..]);
+    start(rt, way, &space[..n], h, &line[word..]);
 }
 
 fn step_at(line: &[u8], from: usize) -> u8 {
@@ -228,14 +239,15 @@ fn step_at(line: &[u8], from: usize) -> u8 {
     byte_at(&step, 0)
 }
 
-fn answer(line: &[u8]) {
-    shell::say(line);
-    shell::say(b"\n");
+fn answer(rt: &impl System, line: &[u8]) {
+    shell::say(rt, line);
+    shell::say(rt, b"\n");
     let next = behind(line, 0, b' ');
     let kind = byte_at(line, 0);
     match kind {
-        b'p' => start_at(Way::Pieces, line, next),
+        b'p' => start_at(rt, Way::Pieces, line, next),
         b'c' => start_at(
+            rt,
             Way::Cuts(step_at(line, next)),
             line,
             behind(line, next, b' '),
@@ -245,22 +257,22 @@ fn answer(line: &[u8]) {
 }
 
 // The next line, and whether there was one.
-fn one_line() -> bool {
-    let mut space = io::large_buffer();
-    let got = shell::read_line(&mut space);
+fn one_line(rt: &impl System) -> bool {
+    let mut space = [0u8; 65536];
+    let got = shell::read_line(rt, &mut space);
     if !got.is_there {
         return false;
     }
     let n = got.length;
-    answer(&space[..n]);
+    answer(rt, &space[..n]);
     true
 }
 
 // Nothing says that an input ends, so the lines are counted down from a number that no input uses up.
-fn main() {
+fn main(rt: HostRuntime) {
     let mut left = u64::MAX;
     while left > 0 {
-        if !one_line() {
+        if !one_line(&rt) {
             return;
         }
         left -= 1;

@@ -8,11 +8,14 @@
 //
 // All that is printed is a text of `printed_replay`, and `replay_printed` of its specs/ is all of them together. The bytes read
 // and written are the system's, of which no contract speaks.
-ghost use Rattle.io.specs.Counts.{IsPrefixLen};
+#![tactic(auto)]
+
+ghost use Rattle.std.specs.Prelude.{◌≤◌, length};
 
 use printed_replay::{Quota, print_heading, print_quota, print_start, quota_in};
 use ride_shell::{Below, card_under};
 use session::{Opened, Session};
+use shell::System;
 
 // The first argument names the card, the quotas stand behind it.
 const FIRST_QUOTA: usize = 2;
@@ -20,9 +23,9 @@ const FIRST_QUOTA: usize = 2;
 // ---- QUOTA..
 
 // What the argument of this number says. One of more than 4,096 bytes is not handed out, and says none.
-fn quota_said(argument: usize) -> Quota {
-    let mut word = io::buffer();
-    let n = os::arg(argument, &mut word);
+fn quota_said(rt: &impl System, argument: usize) -> Quota {
+    let mut word = [0u8; 4096];
+    let n = shell::argument(rt, argument, &mut word);
     quota_in(&word[..n])
 }
 
@@ -34,10 +37,10 @@ fn is_number(quota: Quota) -> bool {
 }
 
 // Are there a card and quotas among so many arguments, the program's name being one, and all quotas numbers.
-fn is_asked(arguments: usize) -> bool {
+fn is_asked(rt: &impl System, arguments: usize) -> bool {
     let mut argument = FIRST_QUOTA;
     while argument < arguments {
-        if !is_number(quota_said(argument)) {
+        if !is_number(quota_said(rt, argument)) {
             return false;
         }
         argument += 1;
@@ -56,11 +59,11 @@ struct Turn {
 }
 
 // A quota of samples from this place on, and its lines, in full: none has more than 110 bytes (proofs/Room.antt).
-fn say_quota(recording: &[u8], place: u16, session: Session, quota: u64) -> Turn {
-    let mut text = io::buffer();
+fn say_quota(rt: &impl System, recording: &[u8], place: u16, session: Session, quota: u64) -> Turn {
+    let mut text = [0u8; 4096];
     let printed = print_quota(recording, place, session, quota, &mut text);
     let after = printed.session;
-    let is_said = shell::say_first(&text, printed.length);
+    let is_said = shell::say_first(rt, &text, printed.length);
     Turn {
         session: after,
         place: printed.place,
@@ -68,10 +71,16 @@ fn say_quota(recording: &[u8], place: u16, session: Session, quota: u64) -> Turn
     }
 }
 
-fn say_said(recording: &[u8], place: u16, session: Session, argument: usize) -> Turn {
-    let quota = quota_said(argument);
+fn say_said(
+    rt: &impl System,
+    recording: &[u8],
+    place: u16,
+    session: Session,
+    argument: usize,
+) -> Turn {
+    let quota = quota_said(rt, argument);
     match quota {
-        Quota::Number(n) => say_quota(recording, place, session, n),
+        Quota::Number(n) => say_quota(rt, recording, place, session, n),
         Quota::None => Turn {
             session,
             place,
@@ -80,12 +89,12 @@ fn say_said(recording: &[u8], place: u16, session: Session, argument: usize) -> 
     }
 }
 
-fn say_quotas(recording: &[u8], session: Session, arguments: usize) {
+fn say_quotas(rt: &impl System, recording: &[u8], session: Session, arguments: usize) {
     let mut going = session;
     let mut place: u16 = 0;
     let mut argument = FIRST_QUOTA;
     while argument < arguments {
-        let next = say_said(recording, place, going, argument);
+        let next = say_said(rt, recording, place, going, argument);
         if !next.goes_on {
             return;
         }
@@ -96,43 +105,43 @@ fn say_quotas(recording: &[u8], session: Session, arguments: usize) {
 }
 
 // The start of the recording on this card, below the heading of h bytes, and then the quotas.
-fn say_start(card: &[u8], recording: &[u8], h: usize, arguments: usize) {
-    let mut text = io::buffer();
+fn say_start(rt: &impl System, card: &[u8], recording: &[u8], h: usize, arguments: usize) {
+    let mut text = [0u8; 4096];
     let begun = print_start(card, recording, &mut text);
-    shell::say_part(&text, h, begun.length);
+    shell::say_part(rt, &text, h, begun.length);
     let opened = begun.opened;
     match opened {
-        Opened::Ready(session) => say_quotas(recording, session, arguments),
+        Opened::Ready(session) => say_quotas(rt, recording, session, arguments),
         Opened::Refused(_) => (),
     }
 }
 
 // The recording on standard input, on this card.
-fn say_below(card: &[u8], h: usize, arguments: usize) {
+fn say_below(rt: &impl System, card: &[u8], h: usize, arguments: usize) {
     let mut space = ride_shell::recording_room();
-    let n = io::read_full(0, &mut space);
-    say_start(card, &space[..n], h, arguments);
+    let n = shell::read_input(rt, &mut space);
+    say_start(rt, card, &space[..n], h, arguments);
 }
 
 // Says the heading, then reads the card's file.
-fn card_below(buf: &mut [u8]) -> Below
-    ensures { IsPrefixLen result.length buf.new }
+fn card_below(rt: &impl System, buf: &mut [u8]) -> Below
+    ensures { result.length ≤ length buf.new }
 {
     let mut space = [0u8; 64];
     let h = print_heading(&mut space);
-    card_under(&space[..h], buf)
+    card_under(rt, &space[..h], buf)
 }
 
-fn main() {
-    let arguments = os::arg_count();
-    if !is_asked(arguments) {
-        shell::warn(b"usage: replay CARD QUOTA.. < RECORDING\n");
+fn main(rt: HostRuntime) {
+    let arguments = shell::argument_count(&rt);
+    if !is_asked(&rt, arguments) {
+        shell::warn(&rt, b"usage: replay CARD QUOTA.. < RECORDING\n");
         return;
     }
-    let mut space = io::buffer();
-    let card = card_below(&mut space);
+    let mut space = [0u8; 4096];
+    let card = card_below(&rt, &mut space);
     let n = card.length;
     if card.is_read {
-        say_below(&space[..n], card.heading, arguments);
+        say_below(&rt, &space[..n], card.heading, arguments);
     }
 }

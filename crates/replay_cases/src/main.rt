@@ -10,6 +10,8 @@
 // refused is `refused N` alone. Places and quotas are decimal, all else is hexadecimal, two digits a byte; no bytes are `-`.
 // tests/compare/README.md has the rest. What the program `replay` cannot show is shown here: any place, a session that is handed in
 // out of its ranges or for another train type, and calls behind a refused one.
+#![tactic(auto)]
+
 use card::{Found, card_in};
 use case_lines::{behind, unhex};
 use leaf::{byte_at, choose32};
@@ -19,6 +21,7 @@ use rides::recording::samples;
 use rides::replay::{End, Last, Replayed, replay};
 use rides::ride::number_of;
 use session::{Opened, Session};
+use shell::System;
 use step::Answer;
 use text::{hex_digit, put_ended, put_labelled, put_text};
 
@@ -90,27 +93,33 @@ fn put_end(out: &mut [u8], at: usize, end: End) -> usize {
     }
 }
 
-fn say_line(ran: u16, last: Last, end: End) {
-    let mut line = io::buffer();
+fn say_line(rt: &impl System, ran: u16, last: Last, end: End) {
+    let mut line = [0u8; 4096];
     let at = put_ended(&mut line, 0, ran as u32, b' ');
     let at = put_last(&mut line, at, last);
     let n = put_end(&mut line, at, end);
-    shell::say_first(&line, n);
+    shell::say_first(rt, &line, n);
 }
 
 // A replay, whose line is written.
-fn say_replay(session: Session, recording: &[u8], place: u64, quota: u64) -> Replayed {
+fn say_replay(
+    rt: &impl System,
+    session: Session,
+    recording: &[u8],
+    place: u64,
+    quota: u64,
+) -> Replayed {
     let replayed = replay(recording, place, session, quota);
     let last = replayed.last;
     let end = replayed.end;
-    say_line(replayed.ran, last, end);
+    say_line(rt, replayed.ran, last, end);
     replayed
 }
 
 // ---- calls
 
 // All calls; each takes a byte of them or more, so that there are no more calls than bytes.
-fn say_calls(session: Session, recording: &[u8], calls: &[u8]) {
+fn say_calls(rt: &impl System, session: Session, recording: &[u8], calls: &[u8]) {
     let mut going = session;
     let mut i = 0;
     let mut left = calls.len();
@@ -120,7 +129,7 @@ fn say_calls(session: Session, recording: &[u8], calls: &[u8]) {
         }
         let place = number_at(calls, i);
         let quota = number_at(calls, behind(calls, i, b':'));
-        let replayed = say_replay(going, recording, place, quota);
+        let replayed = say_replay(rt, going, recording, place, quota);
         going = replayed.session;
         i = behind(calls, i, b',');
         left -= 1;
@@ -130,20 +139,20 @@ fn say_calls(session: Session, recording: &[u8], calls: &[u8]) {
 // ---- splits
 
 // So many samples, and from where they ended so many more.
-fn say_split(session: Session, recording: &[u8], first: u16, second: u16) {
-    let replayed = say_replay(session, recording, 0, first as u64);
+fn say_split(rt: &impl System, session: Session, recording: &[u8], first: u16, second: u16) {
+    let replayed = say_replay(rt, session, recording, 0, first as u64);
     let after = replayed.session;
-    say_replay(after, recording, replayed.ran as u64, second as u64);
+    say_replay(rt, after, recording, replayed.ran as u64, second as u64);
 }
 
-fn say_splits(session: Session, recording: &[u8]) {
+fn say_splits(rt: &impl System, session: Session, recording: &[u8]) {
     let n = samples(recording);
     let mut k: u16 = 0;
     while k < n {
-        say_split(session, recording, k, n - k);
+        say_split(rt, session, recording, k, n - k);
         k += 1;
     }
-    say_split(session, recording, n, 0);
+    say_split(rt, session, recording, n, 0);
 }
 
 // ---- the cases
@@ -160,26 +169,26 @@ fn with_steps(mut session: Session, steps: u8) -> Session {
     session
 }
 
-fn go(way: Way, session: Session, recording: &[u8], calls: &[u8]) {
+fn go(rt: &impl System, way: Way, session: Session, recording: &[u8], calls: &[u8]) {
     match way {
-        Way::Calls(steps) => say_calls(with_steps(session, steps), recording, calls),
-        Way::Splits => say_splits(session, recording),
+        Way::Calls(steps) => say_calls(rt, with_steps(session, steps), recording, calls),
+        Way::Splits => say_splits(rt, session, recording),
     }
 }
 
 // The recording from this place of the line on, and the calls behind it.
-fn go_at(way: Way, session: Session, line: &[u8], from: usize) {
-    let mut space = io::large_buffer();
+fn go_at(rt: &impl System, way: Way, session: Session, line: &[u8], from: usize) {
+    let mut space = [0u8; 65536];
     let recording = unhex(line, from, &mut space);
     let n = recording.length;
     let calls = behind(line, from, b' ');
-    go(way, session, &space[..n], &line[calls..]);
+    go(rt, way, session, &space[..n], &line[calls..]);
 }
 
-fn say_refused(number: u8) {
-    let mut line = io::buffer();
+fn say_refused(rt: &impl System, number: u8) {
+    let mut line = [0u8; 4096];
     let n = put_refused(&mut line, 0, number);
-    shell::say_first(&line, n);
+    shell::say_first(rt, &line, n);
 }
 
 fn opened_on(card: &[u8], train: u8) -> Opened {
@@ -191,53 +200,54 @@ fn opened_on(card: &[u8], train: u8) -> Opened {
 }
 
 // The card from this place of the line on, and the recording behind it.
-fn start_at(way: Way, train: u8, line: &[u8], from: usize) {
-    let mut space = io::large_buffer();
+fn start_at(rt: &impl System, way: Way, train: u8, line: &[u8], from: usize) {
+    let mut space = [0u8; 65536];
     let card = unhex(line, from, &mut space);
     let n = card.length;
     let opened = opened_on(&space[..n], train);
     match opened {
-        Opened::Ready(session) => go_at(way, session, line, behind(line, from, b' ')),
-        Opened::Refused(why) => say_refused(number_of(why)),
+        Opened::Ready(session) => go_at(rt, way, session, line, behind(line, from, b' ')),
+        Opened::Refused(why) => say_refused(rt, number_of(why)),
     }
 }
 
-fn answer(line: &[u8]) {
-    shell::say(line);
-    shell::say(b"\n");
+fn answer(rt: &impl System, line: &[u8]) {
+    shell::say(rt, line);
+    shell::say(rt, b"\n");
     let first = behind(line, 0, b' ');
     let second = behind(line, first, b' ');
     let train = one_byte(line, first);
     let kind = byte_at(line, 0);
     match kind {
         b'r' => start_at(
+            rt,
             Way::Calls(one_byte(line, second)),
             train,
             line,
             behind(line, second, b' '),
         ),
-        b's' => start_at(Way::Splits, train, line, second),
+        b's' => start_at(rt, Way::Splits, train, line, second),
         _ => (),
     }
 }
 
 // The next line, and whether there was one.
-fn one_line() -> bool {
-    let mut space = io::large_buffer();
-    let got = shell::read_line(&mut space);
+fn one_line(rt: &impl System) -> bool {
+    let mut space = [0u8; 65536];
+    let got = shell::read_line(rt, &mut space);
     if !got.is_there {
         return false;
     }
     let n = got.length;
-    answer(&space[..n]);
+    answer(rt, &space[..n]);
     true
 }
 
 // Nothing says that an input ends, so the lines are counted down from a number that no input uses up.
-fn main() {
+fn main(rt: HostRuntime) {
     let mut left = u64::MAX;
     while left > 0 {
-        if !one_line() {
+        if !one_line(&rt) {
             return;
         }
         left -= 1;

@@ -3,12 +3,12 @@
 //
 // All that is printed below the heading and of a card that could be read is one text of `printed::print_ride`. The bytes
 // read and written are the system's, of which no contract speaks.
-ghost use Rattle.std.specs.Prelude.{◌≡◌, ℕ, length, get_or};
-ghost use Rattle.io.specs.Counts.{IsPrefixLen};
+#![tactic(auto)]
 
-use check::same;
+ghost use Rattle.std.specs.Prelude.{◌≡◌, ◌≤◌, ℕ, length, get_or};
+
 use printed::{Form, print_heading, print_ride};
-use shell::{say, say_part};
+use shell::{System, say, say_part};
 
 // One byte more than the longest recording, 6 + 6 × 10,000 bytes: with that many it is refused, whatever follows.
 const RECORDING_ROOM: usize = 60007;
@@ -42,18 +42,18 @@ pub struct Below {
 
 // Says a heading, then reads the card's file, which the first argument names. Of it more than the longest record is read,
 // where the buffer has room. None is read where the heading could not be written.
-pub fn card_under(heading: &[u8], buf: &mut [u8]) -> Below
-    ensures { IsPrefixLen result.length buf.new }
+pub fn card_under(rt: &impl System, heading: &[u8], buf: &mut [u8]) -> Below
+    ensures { result.length ≤ length buf.new }
 {
     let h = heading.len();
-    if !say(heading) {
+    if !say(rt, heading) {
         return Below {
             is_read: false,
             length: 0,
             heading: h,
         };
     }
-    let card = shell::named_file(buf);
+    let card = shell::named_file(rt, buf);
     Below {
         is_read: card.is_read,
         length: card.length,
@@ -62,32 +62,32 @@ pub fn card_under(heading: &[u8], buf: &mut [u8]) -> Below
 }
 
 // The same below the heading of a ride that is printed in this form.
-pub fn card_below(form: Form, buf: &mut [u8]) -> Below
-    ensures { IsPrefixLen result.length buf.new }
+pub fn card_below(rt: &impl System, form: Form, buf: &mut [u8]) -> Below
+    ensures { result.length ≤ length buf.new }
 {
     let mut space = [0u8; 64];
     let h = print_heading(form, &mut space);
-    card_under(&space[..h], buf)
+    card_under(rt, &space[..h], buf)
 }
 
 // ---- the ride
 
 // The ride of the recording on standard input, on this card, below the heading of h bytes.
-fn say_below(form: Form, card: &[u8], h: usize) {
+fn say_below(rt: &impl System, form: Form, card: &[u8], h: usize) {
     let mut space = recording_room();
-    let n = io::read_full(0, &mut space);
+    let n = shell::read_input(rt, &mut space);
     let mut text = text_room();
     let end = print_ride(form, card, &space[..n], &mut text);
-    say_part(&text, h, end);
+    say_part(rt, &text, h, end);
 }
 
 // The ride in this form: its heading, and below it, where the card's file could be read, all else.
-fn say_ride(form: Form) {
-    let mut space = io::buffer();
-    let card = card_below(form, &mut space);
+fn say_ride(rt: &impl System, form: Form) {
+    let mut space = [0u8; 4096];
+    let card = card_below(rt, form, &mut space);
     let n = card.length;
     if card.is_read {
-        say_below(form, &space[..n], card.heading);
+        say_below(rt, form, &space[..n], card.heading);
     }
 }
 
@@ -102,42 +102,42 @@ pub enum Given {
 }
 
 // Is the second argument this word, byte for byte. One of more than 4,096 bytes is not handed out, and counts as one without bytes.
-fn is_second(word: &[u8]) -> bool {
-    let mut space = io::buffer();
-    let n = os::arg(2, &mut space);
-    same(&space[..n], word)
+fn is_second(rt: &impl System, word: &[u8]) -> bool {
+    let mut space = [0u8; 4096];
+    let n = shell::argument(rt, 2, &mut space);
+    &space[..n] == word
 }
 
-fn worded(word: &[u8]) -> Given {
-    if is_second(word) {
+fn worded(rt: &impl System, word: &[u8]) -> Given {
+    if is_second(rt, word) {
         return Given::Word;
     }
     Given::Other
 }
 
 // The arguments of a program that knows this word, which is not empty.
-pub fn given_with(word: &[u8]) -> Given {
-    let arguments = os::arg_count();
+pub fn given_with(rt: &impl System, word: &[u8]) -> Given {
+    let arguments = shell::argument_count(rt);
     match arguments {
         2 => Given::Card,
-        3 => worded(word),
+        3 => worded(rt, word),
         _ => Given::Other,
     }
 }
 
 // The whole program: its one argument is the card's file. Any other number of arguments is answered with the usage.
-pub fn main_with(form: Form, usage: &[u8]) {
-    if shell::has_argument(usage) {
-        say_ride(form);
+pub fn main_with(rt: &impl System, form: Form, usage: &[u8]) {
+    if shell::has_argument(rt, usage) {
+        say_ride(rt, form);
     }
 }
 
 // The same with a word that may stand behind the card's file: it asks for the second form. Any other argument is answered with the usage.
-pub fn main_with_word(alone: Form, word: &[u8], second: Form, usage: &[u8]) {
-    let given = given_with(word);
+pub fn main_with_word(rt: &impl System, alone: Form, word: &[u8], second: Form, usage: &[u8]) {
+    let given = given_with(rt, word);
     match given {
-        Given::Card => say_ride(alone),
-        Given::Word => say_ride(second),
-        Given::Other => shell::warn(usage),
+        Given::Card => say_ride(rt, alone),
+        Given::Word => say_ride(rt, second),
+        Given::Other => shell::warn(rt, usage),
     }
 }

@@ -5,12 +5,14 @@
 //
 // The card is K of lessons/cards, with train type 8. At age k start gives 15000 - 10k hundredths of km/h and before-stop 6000 - 10k, and the
 // limit is 11000 at age 0; the tick length is 100, and BTS has 70 km/h.
+#![tactic(auto)]
+
 mod pairs;
 
 use card::{Found, Reading, card_in};
 use leaf::{Refusal, choose32};
 use session::{Opened, Outcome, Sample, Session};
-use shell::{say, say_first};
+use shell::{System, say, say_first};
 use step::Answer;
 use text::{put, put_ended, put_refusal};
 
@@ -26,11 +28,11 @@ fn card_k() -> [u8; 44] {
 
 // ---- what is written
 
-fn refusal(why: Refusal) {
-    let mut line = io::buffer();
+fn refusal(rt: &impl System, why: Refusal) {
+    let mut line = [0u8; 4096];
     let at = put_refusal(&mut line, 0, why);
     let n = put(&mut line, at, b'\n');
-    say_first(&line, n);
+    say_first(rt, &line, n);
 }
 
 fn put_answer(line: &mut [u8], a: Answer) -> usize {
@@ -41,23 +43,30 @@ fn put_answer(line: &mut [u8], a: Answer) -> usize {
     put_ended(line, at, choose32(a.limit, 1, 0), b'\n')
 }
 
-fn answer(a: Answer) {
-    let mut line = io::buffer();
+fn answer(rt: &impl System, a: Answer) {
+    let mut line = [0u8; 4096];
     let n = put_answer(&mut line, a);
-    say_first(&line, n);
+    say_first(rt, &line, n);
 }
 
-fn outcome(o: Outcome) {
+fn outcome(rt: &impl System, o: Outcome) {
     match o {
-        Outcome::Answered(a) => answer(a),
-        Outcome::Refused(why) => refusal(why),
+        Outcome::Answered(a) => answer(rt, a),
+        Outcome::Refused(why) => refusal(rt, why),
     }
 }
 
 // ---- the session
 
 // The session after a sample, whose line is written.
-fn after(session: Session, pulses: u16, beacon: u8, buttons: u16, mode: u8) -> Session {
+fn after(
+    rt: &impl System,
+    session: Session,
+    pulses: u16,
+    beacon: u8,
+    buttons: u16,
+    mode: u8,
+) -> Session {
     let sampled = session.sample(Sample {
         pulses,
         beacon,
@@ -65,13 +74,13 @@ fn after(session: Session, pulses: u16, beacon: u8, buttons: u16, mode: u8) -> S
         mode,
     });
     let given = sampled.outcome;
-    outcome(given);
+    outcome(rt, given);
     sampled.session
 }
 
 // The same in CONV with no button pressed; beacon 0 is none.
-fn reads(session: Session, pulses: u16, beacon: u8) -> Session {
-    after(session, pulses, beacon, 0, 1)
+fn reads(rt: &impl System, session: Session, pulses: u16, beacon: u8) -> Session {
+    after(rt, session, pulses, beacon, 0, 1)
 }
 
 fn with_tick(mut session: Session, tick: u16) -> Session {
@@ -108,60 +117,69 @@ fn with_cause(mut session: Session, cause: u8) -> Session {
 
 // The 8 is not read in BTS and is the last code. A mode change with pulses is refused, so the start row that leaving BTS set is one
 // sample older after it, no more, and the 8 is not new. A sample without a beacon lets it be read: cause 4 at standstill, 256 + 1024.
-fn mode_refused(session: Session) {
-    say(b"a mode change with pulses is refused, and changes nothing\n");
-    let first = reads(session, 0, 7);
-    let in_bts = after(first, 0, 8, 0, 2);
-    let left = reads(in_bts, 0, 8);
-    let kept = after(left, 100, 0, 0, 2);
-    let same_code = reads(kept, 0, 8);
-    let no_code = reads(same_code, 0, 0);
-    reads(no_code, 0, 8);
+fn mode_refused(rt: &impl System, session: Session) {
+    say(
+        rt,
+        b"a mode change with pulses is refused, and changes nothing\n",
+    );
+    let first = reads(rt, session, 0, 7);
+    let in_bts = after(rt, first, 0, 8, 0, 2);
+    let left = reads(rt, in_bts, 0, 8);
+    let kept = after(rt, left, 100, 0, 0, 2);
+    let same_code = reads(rt, kept, 0, 8);
+    let no_code = reads(rt, same_code, 0, 0);
+    reads(rt, no_code, 0, 8);
 }
 
 // A beacon 7 sets before-stop and waits for 4, lamp 16. Four refusals later it is one sample old: the presses in refused samples have
 // neither answered it nor armed override, and their codes, 13, 0 and 12, are not the last one: the 7 behind them is not new, so it
 // makes no stop zone. Then a press does answer.
-fn sample_refused(session: Session) {
-    say(b"beacon 13, button 11, mode 3 and 1001 pulses are refused, and change nothing\n");
-    let read = reads(session, 100, 7);
-    let beacon = after(read, 100, 13, 16, 1);
-    let button = after(beacon, 100, 0, 2048 + 128, 1);
-    let mode = after(button, 0, 0, 16, 3);
-    let pulses = after(mode, 1001, 12, 16, 1);
-    let older = reads(pulses, 100, 7);
-    after(older, 100, 0, 16, 1);
+fn sample_refused(rt: &impl System, session: Session) {
+    say(
+        rt,
+        b"beacon 13, button 11, mode 3 and 1001 pulses are refused, and change nothing\n",
+    );
+    let read = reads(rt, session, 100, 7);
+    let beacon = after(rt, read, 100, 13, 16, 1);
+    let button = after(rt, beacon, 100, 0, 2048 + 128, 1);
+    let mode = after(rt, button, 0, 0, 16, 3);
+    let pulses = after(rt, mode, 1001, 12, 16, 1);
+    let older = reads(rt, pulses, 100, 7);
+    after(rt, older, 100, 0, 16, 1);
 }
 
 // The tick length is 10..1000, the train type 1..8 and its T at most vmax. 8 comes before 9. Five refusals later, everything put back,
 // the beacon 7 is one sample old.
-fn session_refused(session: Session) {
-    say(b"a session out of its ranges is refused, and handed back as it was\n");
-    let read = reads(session, 0, 7);
-    let short = reads(with_tick(read, 9), 0, 0);
-    let long = reads(with_tick(short, 1001), 0, 13);
-    let none = reads(with_train(with_tick(long, 100), 0), 0, 0);
-    let nine = reads(with_train(none, 9), 0, 0);
-    let slow = reads(with_vmax(with_train(nine, 8), 199), 0, 0);
-    reads(with_vmax(slow, 200), 0, 0);
+fn session_refused(rt: &impl System, session: Session) {
+    say(
+        rt,
+        b"a session out of its ranges is refused, and handed back as it was\n",
+    );
+    let read = reads(rt, session, 0, 7);
+    let short = reads(rt, with_tick(read, 9), 0, 0);
+    let long = reads(rt, with_tick(short, 1001), 0, 13);
+    let none = reads(rt, with_train(with_tick(long, 100), 0), 0, 0);
+    let nine = reads(rt, with_train(none, 9), 0, 0);
+    let slow = reads(rt, with_vmax(with_train(nine, 8), 199), 0, 0);
+    reads(rt, with_vmax(slow, 200), 0, 0);
 }
 
 // Behind a last code of 12 another 12 alarms as the first does, 2048, and brakes at standstill, 1024. A session with cause 6 is braked. 13
 // and 7 are out of range.
-fn code_and_cause(session: Session) {
-    say(b"a last code may be 12 and a cause 6, and no more\n");
-    reads(with_last_code(session, 12), 0, 12);
-    reads(with_last_code(session, 13), 0, 12);
-    reads(with_cause(session, 6), 0, 0);
-    reads(with_cause(session, 7), 0, 0);
+fn code_and_cause(rt: &impl System, session: Session) {
+    say(rt, b"a last code may be 12 and a cause 6, and no more\n");
+    reads(rt, with_last_code(session, 12), 0, 12);
+    reads(rt, with_last_code(session, 13), 0, 12);
+    reads(rt, with_cause(session, 6), 0, 0);
+    reads(rt, with_cause(session, 7), 0, 0);
 }
 
 // So many samples in CONV with these pulses.
-fn goes_on(session: Session, pulses: u16, samples: u16) -> Session {
+fn goes_on(rt: &impl System, session: Session, pulses: u16, samples: u16) -> Session {
     let mut going = session;
     let mut left = samples;
     while 0 < left {
-        going = reads(going, pulses, 0);
+        going = reads(rt, going, pulses, 0);
         left -= 1;
     }
     going
@@ -169,85 +187,94 @@ fn goes_on(session: Session, pulses: u16, samples: u16) -> Session {
 
 // A beacon 8 at 36 km/h is cause 4 and sets stop, 40 km/h, with the lamp of increase. Then five samples without pulses, one that is refused,
 // so many more without, and one that carries rearm.
-fn run_with_refused(session: Session, more: u16) {
-    let braked = reads(session, 100, 8);
-    let five = goes_on(braked, 0, 5);
-    let refused = after(five, 1001, 0, 0, 1);
-    after(goes_on(refused, 0, more), 0, 0, 1024, 1);
+fn run_with_refused(rt: &impl System, session: Session, more: u16) {
+    let braked = reads(rt, session, 100, 8);
+    let five = goes_on(rt, braked, 0, 5);
+    let refused = after(rt, five, 1001, 0, 0, 1);
+    after(rt, goes_on(rt, refused, 0, more), 0, 0, 1024, 1);
 }
 
 // Five, four and the last are ten: rearmed. With three they are nine: the brake stays on and lamp 10 dark.
-fn run_unbroken(session: Session) {
-    say(b"a refused sample neither counts among ten without pulses nor breaks their run\n");
-    run_with_refused(session, 4);
-    say(b"and with nine it is not standstill\n");
-    run_with_refused(session, 3);
+fn run_unbroken(rt: &impl System, session: Session) {
+    say(
+        rt,
+        b"a refused sample neither counts among ten without pulses nor breaks their run\n",
+    );
+    run_with_refused(rt, session, 4);
+    say(rt, b"and with nine it is not standstill\n");
+    run_with_refused(rt, session, 3);
 }
 
 // Nine before are enough for the mode to change, eight are not.
-fn mode_by_count(session: Session) {
-    say(b"a session with a count of 9 changes its mode, with 8 it does not\n");
-    after(with_stood(session, 9), 0, 0, 0, 2);
-    after(with_stood(session, 8), 0, 0, 0, 2);
+fn mode_by_count(rt: &impl System, session: Session) {
+    say(
+        rt,
+        b"a session with a count of 9 changes its mode, with 8 it does not\n",
+    );
+    after(rt, with_stood(session, 9), 0, 0, 0, 2);
+    after(rt, with_stood(session, 8), 0, 0, 0, 2);
 }
 
 // The count stops at 30,000, which is standstill still; more is out of range.
-fn count_top(session: Session) {
-    say(b"a count may be 30,000, where it stops, and no more\n");
-    let full = reads(with_stood(session, 30000), 0, 0);
-    after(full, 0, 0, 0, 2);
-    reads(with_stood(session, 30001), 0, 0);
+fn count_top(rt: &impl System, session: Session) {
+    say(rt, b"a count may be 30,000, where it stops, and no more\n");
+    let full = reads(rt, with_stood(session, 30000), 0, 0);
+    after(rt, full, 0, 0, 0, 2);
+    reads(rt, with_stood(session, 30001), 0, 0);
 }
 
 // 960 * 100 and seven times 1000 * 100 make 796,000 from the reading. With 31 * 129 = 3,999 more the second beacon 7 is the zone, its lamp
 // dark before age 10; with 40 * 100 = 4,000 before-stop is set anew. No tick length divides 799,999, so no one card gives it. Too fast
 // from the second sample on: cause 5.
-fn second_seven(session: Session, tick: u16, pulses: u16) {
-    let read = reads(session, 0, 7);
-    let answered = after(read, 960, 0, 16, 1);
-    let near = goes_on(answered, 1000, 7);
-    reads(with_tick(near, tick), pulses, 7);
+fn second_seven(rt: &impl System, session: Session, tick: u16, pulses: u16) {
+    let read = reads(rt, session, 0, 7);
+    let answered = after(rt, read, 960, 0, 16, 1);
+    let near = goes_on(rt, answered, 1000, 7);
+    reads(rt, with_tick(near, tick), pulses, 7);
 }
 
-fn zone(session: Session) {
-    say(b"beacon 7 again at 799,999 is the stop zone\n");
-    second_seven(session, 31, 129);
-    say(b"and at 800,000 is none\n");
-    second_seven(session, 40, 100);
+fn zone(rt: &impl System, session: Session) {
+    say(rt, b"beacon 7 again at 799,999 is the stop zone\n");
+    second_seven(rt, session, 31, 129);
+    say(rt, b"and at 800,000 is none\n");
+    second_seven(rt, session, 40, 100);
 }
 
-fn read_under_1(card: [u8; 44]) {
+fn read_under_1(rt: &impl System, card: [u8; 44]) {
     let reading = card::read(&card, 1);
     match reading {
         Reading::Read(_) => {
-            say(b"read\n");
+            say(rt, b"read\n");
         }
-        Reading::Refused(why) => refusal(why),
+        Reading::Refused(why) => refusal(rt, why),
     }
 }
 
 // Card K, and its first 39 bytes as a record of version 1.
-fn highest_1() {
-    say(b"under highest 1 version 2 is refused and version 1 read\n");
+fn highest_1(rt: &impl System) {
+    say(
+        rt,
+        b"under highest 1 version 2 is refused and version 1 read\n",
+    );
     let mut card = card_k();
-    read_under_1(card);
+    read_under_1(rt, card);
     card[1] = 39;
     card[2] = 1;
-    read_under_1(card);
+    read_under_1(rt, card);
 }
 
-fn rides(session: Session) {
-    mode_refused(session);
-    sample_refused(session);
-    session_refused(session);
-    code_and_cause(session);
-    zone(session);
+fn rides(rt: &impl System, session: Session) {
+    mode_refused(rt, session);
+    sample_refused(rt, session);
+    session_refused(rt, session);
+    code_and_cause(rt, session);
+    zone(rt, session);
 }
 
-fn standing(session: Session) {
-    run_unbroken(session);
-    mode_by_count(session);
-    count_top(session);
+fn standing(rt: &impl System, session: Session) {
+    run_unbroken(rt, session);
+    mode_by_count(rt, session);
+    count_top(rt, session);
 }
 
 // The session that card K opens.
@@ -260,15 +287,15 @@ fn opened() -> Opened {
     }
 }
 
-fn main() {
+fn main(rt: HostRuntime) {
     let start = opened();
     match start {
         Opened::Ready(session) => {
-            rides(session);
-            standing(session);
-            pairs::cases(session);
+            rides(&rt, session);
+            standing(&rt, session);
+            pairs::cases(&rt, session);
         }
-        Opened::Refused(why) => refusal(why),
+        Opened::Refused(why) => refusal(&rt, why),
     }
-    highest_1();
+    highest_1(&rt);
 }

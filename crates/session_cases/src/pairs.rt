@@ -2,7 +2,7 @@
 use crate::{after, reads, refusal};
 use card::{Card, Pairs, Settings};
 use session::{Opened, Session};
-use shell::say;
+use shell::{System, say};
 use sides::pairs::{First, FirstKind, FourLimits, Paired};
 
 // ---- opening (02 g)
@@ -36,46 +36,46 @@ fn with_slow_vmax(mut settings: Settings) -> Settings {
     settings
 }
 
-fn opens(version: u8, settings: Settings, train: u8) {
+fn opens(rt: &impl System, version: u8, settings: Settings, train: u8) {
     let opened = Session::open(Card { version, settings }, train);
     match opened {
         Opened::Ready(_) => {
-            say(b"opened\n");
+            say(rt, b"opened\n");
         }
-        Opened::Refused(why) => refusal(why),
+        Opened::Refused(why) => refusal(rt, why),
     }
 }
 
 // The same settings beside the versions 0 to 4.
-fn opens_beside(settings: Settings) {
-    opens(0, settings, 8);
-    opens(1, settings, 8);
-    opens(2, settings, 8);
-    opens(3, settings, 8);
-    opens(4, settings, 8);
+fn opens_beside(rt: &impl System, settings: Settings) {
+    opens(rt, 0, settings, 8);
+    opens(rt, 1, settings, 8);
+    opens(rt, 2, settings, 8);
+    opens(rt, 3, settings, 8);
+    opens(rt, 4, settings, 8);
 }
 
 // Version 1 has functions 0, at 39; the bytes of pairs, from 44 on, are 0 beside versions 1 and 2, and are not beside version 3.
-fn versions(k: Settings) {
-    say(b"card K's settings open beside version 2 alone\n");
-    opens_beside(k);
-    say(b"without functions beside 1 and 2\n");
-    opens_beside(without_functions(k));
-    say(b"with pairs beside 3\n");
-    opens_beside(with_pairs(k, pairs_c()));
-    say(b"with pairs and without functions beside 3\n");
-    opens_beside(with_pairs(without_functions(k), pairs_c()));
+fn versions(rt: &impl System, k: Settings) {
+    say(rt, b"card K's settings open beside version 2 alone\n");
+    opens_beside(rt, k);
+    say(rt, b"without functions beside 1 and 2\n");
+    opens_beside(rt, without_functions(k));
+    say(rt, b"with pairs beside 3\n");
+    opens_beside(rt, with_pairs(k, pairs_c()));
+    say(rt, b"with pairs and without functions beside 3\n");
+    opens_beside(rt, with_pairs(without_functions(k), pairs_c()));
 }
 
 // Of what is at fault 2 is first, then the first of the settings, then the train type.
-fn opening_order(k: Settings) {
-    say(b"the opening refuses 2, then 5, then 7\n");
-    opens(4, with_slow_vmax(k), 0);
-    opens(3, with_slow_vmax(k), 0);
-    opens(3, k, 0);
-    opens(2, with_pairs(k, pairs_c()), 9);
-    opens(2, k, 9);
-    opens(3, with_pairs(k, pairs_c()), 0);
+fn opening_order(rt: &impl System, k: Settings) {
+    say(rt, b"the opening refuses 2, then 5, then 7\n");
+    opens(rt, 4, with_slow_vmax(k), 0);
+    opens(rt, 3, with_slow_vmax(k), 0);
+    opens(rt, 3, k, 0);
+    opens(rt, 2, with_pairs(k, pairs_c()), 9);
+    opens(rt, 2, k, 9);
+    opens(rt, 3, with_pairs(k, pairs_c()), 0);
 }
 
 // ---- sessions with pairs (02 g)
@@ -132,70 +132,92 @@ fn with_first(session: Session, distance: u32) -> Session {
 
 // Versions 0 and 4 are none; version 1 has no functions, version 3 has pairs, and version 2 has none. 8 comes before 9. Put back, all is as
 // it was.
-fn version_refused(session: Session) {
-    say(b"a version is judged with the settings, and its session handed back as it was\n");
-    let none = reads(with_version(session, 0), 0, 0);
-    let first = reads(with_version(none, 1), 0, 0);
-    let third = reads(with_version(first, 3), 0, 13);
-    let fourth = reads(with_version(third, 4), 0, 0);
-    let pairs = reads(with_card_pairs(with_version(fourth, 2), pairs_c()), 0, 0);
-    let three = reads(with_version(pairs, 3), 0, 0);
-    reads(with_card_pairs(with_version(three, 2), Pairs::NONE), 0, 0);
+fn version_refused(rt: &impl System, session: Session) {
+    say(
+        rt,
+        b"a version is judged with the settings, and its session handed back as it was\n",
+    );
+    let none = reads(rt, with_version(session, 0), 0, 0);
+    let first = reads(rt, with_version(none, 1), 0, 0);
+    let third = reads(rt, with_version(first, 3), 0, 13);
+    let fourth = reads(rt, with_version(third, 4), 0, 0);
+    let pairs = reads(
+        rt,
+        with_card_pairs(with_version(fourth, 2), pairs_c()),
+        0,
+        0,
+    );
+    let three = reads(rt, with_version(pairs, 3), 0, 0);
+    reads(
+        rt,
+        with_card_pairs(with_version(three, 2), Pairs::NONE),
+        0,
+        0,
+    );
 }
 
 // Limit 30 stands and may go, 64. At 30,000 its age stops; 30,001 is out of range, of a limit that does not stand too.
-fn paired_ages(session: Session) {
-    say(b"the age of a paired limit may be 30,000, where it stops, and no more\n");
-    let full = reads(with_thirty(session, 30000), 0, 0);
-    reads(full, 0, 0);
-    reads(with_thirty(session, 30001), 0, 0);
-    reads(with_no_seventy(session, 30000), 0, 0);
-    reads(with_no_seventy(session, 30001), 0, 0);
+fn paired_ages(rt: &impl System, session: Session) {
+    say(
+        rt,
+        b"the age of a paired limit may be 30,000, where it stops, and no more\n",
+    );
+    let full = reads(rt, with_thirty(session, 30000), 0, 0);
+    reads(rt, full, 0, 0);
+    reads(rt, with_thirty(session, 30001), 0, 0);
+    reads(rt, with_no_seventy(session, 30000), 0, 0);
+    reads(rt, with_no_seventy(session, 30001), 0, 0);
 }
 
 // 6,000 m is where it stops: 100 pulses more change nothing.
-fn first_distances(session: Session) {
-    say(b"the first of a pair may be 60,000,000 back, where it stops, and no more\n");
-    let far = reads(with_first(session, 60000000), 100, 0);
-    reads(far, 100, 0);
-    reads(with_first(session, 60000001), 0, 0);
+fn first_distances(rt: &impl System, session: Session) {
+    say(
+        rt,
+        b"the first of a pair may be 60,000,000 back, where it stops, and no more\n",
+    );
+    let far = reads(rt, with_first(session, 60000000), 100, 0);
+    reads(rt, far, 100, 0);
+    reads(rt, with_first(session, 60000001), 0, 0);
 }
 
 // It sets S, lights the limit's lamp and stands; the button takes it off at 0 km/h. At 30 km/h and above it may not go, and 35.28 km/h is more than
 // 5 over: cause 5.
-fn counts(session: Session) {
-    let stands = reads(with_thirty(session, 0), 0, 0);
-    after(stands, 0, 0, 64, 1);
-    after(stands, 98, 0, 64, 1);
+fn counts(rt: &impl System, session: Session) {
+    let stands = reads(rt, with_thirty(session, 0), 0, 0);
+    after(rt, stands, 0, 0, 64, 1);
+    after(rt, stands, 98, 0, 64, 1);
 }
 
 // A paired limit counts whatever the version is.
-fn paired_limit_counts(session: Session, paired: Session) {
-    say(b"a paired limit counts in a session of version 2\n");
-    counts(session);
-    say(b"as in one of version 3\n");
-    counts(paired);
+fn paired_limit_counts(rt: &impl System, session: Session, paired: Session) {
+    say(rt, b"a paired limit counts in a session of version 2\n");
+    counts(rt, session);
+    say(rt, b"as in one of version 3\n");
+    counts(rt, paired);
 }
 
 // An 11 at 10 m, and at 9.9 m and 0.1 m more, makes a pair, 40 km/h, and waits for the limit's button. A tenth of a millimetre further off, or
 // beside version 2, it sets the single limit, 110 km/h.
-fn first_counts(session: Session, paired: Session) {
-    say(b"a first makes a pair on a card with pairs, no further off than they say\n");
-    reads(with_first(paired, 100000), 0, 11);
-    reads(with_first(paired, 99000), 10, 11);
-    reads(with_first(paired, 99901), 1, 11);
-    reads(with_first(session, 0), 0, 11);
+fn first_counts(rt: &impl System, session: Session, paired: Session) {
+    say(
+        rt,
+        b"a first makes a pair on a card with pairs, no further off than they say\n",
+    );
+    reads(rt, with_first(paired, 100000), 0, 11);
+    reads(rt, with_first(paired, 99000), 10, 11);
+    reads(rt, with_first(paired, 99901), 1, 11);
+    reads(rt, with_first(session, 0), 0, 11);
 }
 
 // Card K's session, and the same of version 3 with pairs.
-pub(crate) fn cases(session: Session) {
+pub(crate) fn cases(rt: &impl System, session: Session) {
     let settings = session.card.settings;
-    versions(settings);
-    opening_order(settings);
-    version_refused(session);
+    versions(rt, settings);
+    opening_order(rt, settings);
+    version_refused(rt, session);
     let paired = with_card_pairs(with_version(session, 3), pairs_c());
-    paired_ages(paired);
-    first_distances(paired);
-    paired_limit_counts(session, paired);
-    first_counts(session, paired);
+    paired_ages(rt, paired);
+    first_distances(rt, paired);
+    paired_limit_counts(rt, session, paired);
+    first_counts(rt, session, paired);
 }

@@ -7,12 +7,15 @@
 // `refused N`. A card or an opening that is refused is `refused N` alone. All is hexadecimal, two digits a byte; SINCE has two bytes and a
 // sample six, as in a recording; no bytes are `-`. tests/compare/README.md has the rest. What the program `why` cannot show is shown here: a
 // brake that came on any number of samples ago, a session that is handed in out of its ranges, and samples behind a refused one.
+#![tactic(auto)]
+
 use card::{Found, card_in};
 use case_lines::{behind, unhex};
 use leaf::{byte_at, choose32, word_at};
 use printed::{HIGHEST, put_refused};
 use rides::ride::number_of;
 use session::{Opened, Reasoned, Sample, Session, Told};
+use shell::System;
 use step::Answer;
 use step::speed::reason_number;
 use text::put_ended;
@@ -58,12 +61,12 @@ fn put_told(out: &mut [u8], told: Told) -> usize {
 }
 
 // The session after a sample, whose line is written.
-fn say_sample(session: Session, x: Sample) -> Session {
+fn say_sample(rt: &impl System, session: Session, x: Sample) -> Session {
     let asked = session.ask(x);
     let told = asked.told;
-    let mut line = io::buffer();
+    let mut line = [0u8; 4096];
     let n = put_told(&mut line, told);
-    shell::say_first(&line, n);
+    shell::say_first(rt, &line, n);
     asked.session
 }
 
@@ -78,12 +81,12 @@ fn sample_in(six: &[u8]) -> Sample {
     }
 }
 
-fn say_samples(session: Session, samples: &[u8]) {
+fn say_samples(rt: &impl System, session: Session, samples: &[u8]) {
     let mut going = session;
     let n = samples.len() / 6;
     let mut k = 0;
     while k < n {
-        going = say_sample(going, sample_in(&samples[6 * k..6 * k + 6]));
+        going = say_sample(rt, going, sample_in(&samples[6 * k..6 * k + 6]));
         k += 1;
     }
 }
@@ -104,17 +107,17 @@ fn with_brake(mut session: Session, braked: Braked) -> Session {
 }
 
 // The samples from this place of the line on.
-fn go_at(session: Session, line: &[u8], from: usize) {
-    let mut space = io::large_buffer();
+fn go_at(rt: &impl System, session: Session, line: &[u8], from: usize) {
+    let mut space = [0u8; 65536];
     let samples = unhex(line, from, &mut space);
     let n = samples.length;
-    say_samples(session, &space[..n]);
+    say_samples(rt, session, &space[..n]);
 }
 
-fn say_refused(number: u8) {
-    let mut line = io::buffer();
+fn say_refused(rt: &impl System, number: u8) {
+    let mut line = [0u8; 4096];
     let n = put_refused(&mut line, 0, number);
-    shell::say_first(&line, n);
+    shell::say_first(rt, &line, n);
 }
 
 fn opened_on(card: &[u8], train: u8) -> Opened {
@@ -126,22 +129,23 @@ fn opened_on(card: &[u8], train: u8) -> Opened {
 }
 
 // The card from this place of the line on, and the samples behind it.
-fn start_at(train: u8, braked: Braked, line: &[u8], from: usize) {
-    let mut space = io::large_buffer();
+fn start_at(rt: &impl System, train: u8, braked: Braked, line: &[u8], from: usize) {
+    let mut space = [0u8; 65536];
     let card = unhex(line, from, &mut space);
     let n = card.length;
     let opened = opened_on(&space[..n], train);
     match opened {
         Opened::Ready(session) => go_at(
+            rt,
             with_brake(session, braked),
             line,
             behind(line, from, b' '),
         ),
-        Opened::Refused(why) => say_refused(number_of(why)),
+        Opened::Refused(why) => say_refused(rt, number_of(why)),
     }
 }
 
-fn why_at(line: &[u8], first: usize) {
+fn why_at(rt: &impl System, line: &[u8], first: usize) {
     let second = behind(line, first, b' ');
     let third = behind(line, second, b' ');
     let braked = Braked {
@@ -149,6 +153,7 @@ fn why_at(line: &[u8], first: usize) {
         since: two_bytes(line, third),
     };
     start_at(
+        rt,
         one_byte(line, first),
         braked,
         line,
@@ -156,33 +161,33 @@ fn why_at(line: &[u8], first: usize) {
     );
 }
 
-fn answer(line: &[u8]) {
-    shell::say(line);
-    shell::say(b"\n");
+fn answer(rt: &impl System, line: &[u8]) {
+    shell::say(rt, line);
+    shell::say(rt, b"\n");
     let kind = byte_at(line, 0);
     match kind {
-        b'w' => why_at(line, behind(line, 0, b' ')),
+        b'w' => why_at(rt, line, behind(line, 0, b' ')),
         _ => (),
     }
 }
 
 // The next line, and whether there was one.
-fn one_line() -> bool {
-    let mut space = io::large_buffer();
-    let got = shell::read_line(&mut space);
+fn one_line(rt: &impl System) -> bool {
+    let mut space = [0u8; 65536];
+    let got = shell::read_line(rt, &mut space);
     if !got.is_there {
         return false;
     }
     let n = got.length;
-    answer(&space[..n]);
+    answer(rt, &space[..n]);
     true
 }
 
 // Nothing says that an input ends, so the lines are counted down from a number that no input uses up.
-fn main() {
+fn main(rt: HostRuntime) {
     let mut left = u64::MAX;
     while left > 0 {
-        if !one_line() {
+        if !one_line(&rt) {
             return;
         }
         left -= 1;
