@@ -1,6 +1,6 @@
 -- Where no paired limit stands, the lowest limit is that of the others.
 use Prim.Native.Nat.{ℕ}
-use mathlib.Core.Path.{◌≡◌, refl}
+use mathlib.Core.Path.{◌≡◌}
 use mathlib.Core.Bool.{false}
 use Rattle.sides.specs.declared.pairs.FourLimits.{FourLimits}
 use Rattle.sides.specs.Pairs.{any_paired, pair_speeds}

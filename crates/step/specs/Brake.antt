@@ -1,6 +1,6 @@
 -- Document 01, "Controls": the brake and the lamps. Document 02 c): the alarm of a quiet pickup. Document 02 f): how
 -- many samples ago the brake came on.
-use Rattle.std.specs.Prelude.{ℕ, min, Bool, true, false, ◌&&◌, ◌||◌, not, eqb}
+use Rattle.std.specs.Prelude.{ℕ, min, Bool, ◌&&◌, ◌||◌, not, eqb}
 use Rattle.std.specs.Int.Bits.{bit_or}
 use Rattle.leaf.specs.Choosing.{pick}
 use Rattle.leaf.specs.Numbers.{quiet_code}

@@ -9,6 +9,7 @@ use leaf::{QUIET_CODE, button};
 const ALARM_LAMP: u16 = 2048;
 
 // The lower of two causes, 0 being none.
+#[tactic(auto, unfolding(crate::specs::Brake::lowest))]
 pub fn lowest(a: u8, b: u8) -> u8
     ensures { result ≡ lowest a b }
 {
@@ -16,6 +17,7 @@ pub fn lowest(a: u8, b: u8) -> u8
 }
 
 // The cause that stands after a sample in which `arose` is the lowest that arose (0: none).
+#[tactic(auto, unfolding(crate::specs::Brake::standing_cause))]
 fn standing_cause(before: u8, arose: u8, rearm: bool) -> u8
     ensures { result ≡ standing_cause before arose rearm }
 {
@@ -31,6 +33,7 @@ fn lamp_if(lit: bool, weight: u16) -> u16
 }
 
 // The brake's step: rearm says that a sample at standstill carries it.
+#[tactic(auto, unfolding(crate::specs::Brake::braked))]
 pub fn put_brake(d: Desk, arose: u8, rearm: bool, pulses: u16) -> Desk
     ensures { result ≡ braked arose rearm pulses d }
 {
@@ -41,6 +44,7 @@ pub fn put_brake(d: Desk, arose: u8, rearm: bool, pulses: u16) -> Desk
 }
 
 // What the windows and beacon 3's option wait for.
+#[tactic(auto, unfolding(crate::specs::Brake::window_lamps))]
 fn window_lamps(d: Desk) -> u16
     ensures { result ≡ window_lamps d }
 {
@@ -54,6 +58,7 @@ fn window_lamps(d: Desk) -> u16
 }
 
 // Override armed or reminded, increase for stop, and rearm.
+#[tactic(auto, unfolding(crate::specs::Brake::control_lamps))]
 fn control_lamps(d: Desk, still: bool) -> u16
     ensures { result ≡ control_lamps still d }
 {
@@ -72,6 +77,7 @@ fn control_lamps(d: Desk, still: bool) -> u16
 }
 
 // The lamps of the buttons; `removable` says that the limit may go.
+#[tactic(auto, unfolding(crate::specs::Brake::button_lamps))]
 fn button_lamps(d: Desk, removable: bool, still: bool) -> u16
     ensures { result ≡ button_lamps removable still d }
 {
@@ -82,6 +88,7 @@ fn button_lamps(d: Desk, removable: bool, still: bool) -> u16
 }
 
 // All lamps: the alarm of a quiet pickup beside those of the buttons.
+#[tactic(auto, unfolding(crate::specs::Brake::lamps_of))]
 pub fn lamps_of(d: Desk, removable: bool, still: bool) -> u16
     ensures { result ≡ lamps_of removable still d }
 {

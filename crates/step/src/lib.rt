@@ -1,5 +1,7 @@
 // One sample of the desk: the supervised speed, the brake, the lamps, and all steps in document 01's order, with the
 // answer. Total on every value: it knows no refusal, and takes T and the settings as values.
+#![tactic(auto)]
+
 pub mod brake;
 pub mod speed;
 
@@ -48,6 +50,7 @@ pub struct Stepped {
 const PAIRS_VERSION: u8 = 3;
 
 // Mode, ages and misses, buttons, beacon.
+#[tactic(auto, unfolding(crate::specs::Step::moved_of, desk::specs::Clock::begun, beacons::specs::Beacons::beacon_taken, buttons::specs::Buttons::presses_of, crate::specs::Brake::lowest, desk::specs::State::mode_changed, desk::specs::Clock::advanced, beacons::specs::Beacons::read_if, beacons::specs::Beacons::reads_of, buttons::specs::Buttons::all_presses))]
 fn moved(d: Desk, card: Card, top: u32, x: Input) -> Turn
     ensures { result ≡ moved_of card top x d }
 {
@@ -82,6 +85,7 @@ fn moved(d: Desk, card: Card, top: u32, x: Input) -> Turn
 }
 
 // May a limit go at m mm/s, the single one or a paired one; `last` is row 6's final.
+#[tactic(auto, unfolding(crate::specs::Step::limit_goes))]
 fn limit_goes(d: Desk, m: u32, last: u8, top: u32) -> bool
     ensures { result ≡ limit_goes m last top d }
 {
@@ -90,6 +94,7 @@ fn limit_goes(d: Desk, m: u32, last: u8, top: u32) -> bool
     limit.is_removable(m, last, top) | !(limits.lowest_to_go(m, top) == 0)
 }
 
+#[tactic(auto, unfolding(crate::specs::Step::answer_of))]
 fn answer_at(d: Desk, settings: Settings, top: u32, m: u32, still: bool, speed: u32) -> Answer
     ensures { result ≡ answer_of settings top m still speed d }
 {
@@ -108,6 +113,7 @@ fn answer_at(d: Desk, settings: Settings, top: u32, m: u32, still: bool, speed: 
 }
 
 // The lowest cause of a sample: of those that arose in the steps before it, too fast, and a quiet pickup outside BTS.
+#[tactic(auto, unfolding(crate::specs::Step::arose_of, crate::specs::Brake::lowest))]
 fn arose_at(cause: u8, m: u32, speed: u32, code: u8, bts: bool) -> u8
     ensures { result ≡ arose_of cause m speed code bts }
 {
@@ -121,6 +127,7 @@ fn arose_at(cause: u8, m: u32, speed: u32, code: u8, bts: bool) -> u8
 }
 
 // Speed and brake, over what the steps before made.
+#[tactic(auto, using(crate::proofs::Reasons::reason_speed), unfolding(crate::specs::Step::judged_of))]
 fn judged(d: Desk, settings: Settings, top: u32, x: Input, cause: u8) -> Stepped
     ensures { result ≡ judged_of settings top x cause d }
 {
@@ -141,6 +148,7 @@ fn judged(d: Desk, settings: Settings, top: u32, x: Input, cause: u8) -> Stepped
 }
 
 // One sample; `top` is T in hundredths of km/h.
+#[tactic(auto, unfolding(crate::specs::Step::step_of))]
 pub fn step(d: Desk, card: Card, top: u32, x: Input) -> Stepped
     ensures { result ≡ step_of card top x d }
 {

@@ -82,6 +82,7 @@ impl Standing {
     }
 
     // The lower of two limits, of equal ones the first. One that does not stand does not count.
+    #[tactic(auto, unfolding(crate::specs::Speed::lower))]
     fn or_lower(self, next: Standing) -> Standing
         ensures { result ≡ lower self next }
     {
@@ -91,6 +92,7 @@ impl Standing {
 }
 
 // The protected crossing turns in the speed step.
+#[tactic(auto, unfolding(crate::specs::Speed::crossing_turned))]
 pub fn turn_crossing(d: Desk, m: u32) -> Desk
     ensures { result ≡ crossing_turned m d }
 {
@@ -99,6 +101,7 @@ pub fn turn_crossing(d: Desk, m: u32) -> Desk
 }
 
 // Hundredths of km/h that the main control allows. Clear allows T: it is no limit.
+#[tactic(auto, unfolding(crate::specs::Speed::main_speed))]
 fn main_speed(main: Main, settings: Settings, top: u32) -> u32
     ensures { result ≡ main_speed main.kind main settings top }
 {
@@ -136,6 +139,7 @@ fn main_speed(main: Main, settings: Settings, top: u32) -> u32
 
 // ---- the limits, each with no more work than it needs where it does not stand
 
+#[tactic(auto, unfolding(crate::specs::Speed::bts_limit))]
 fn bts_limit(bts: bool, speed: u8) -> Standing
     ensures { result ≡ bts_limit bts speed }
 {
@@ -145,6 +149,7 @@ fn bts_limit(bts: bool, speed: u8) -> Standing
     Standing::none()
 }
 
+#[tactic(auto, unfolding(crate::specs::Speed::main_limit))]
 fn main_limit(main: Main, settings: Settings, top: u32) -> Standing
     ensures { result ≡ main_limit settings top main }
 {
@@ -155,6 +160,7 @@ fn main_limit(main: Main, settings: Settings, top: u32) -> Standing
     Standing::none()
 }
 
+#[tactic(auto, unfolding(crate::specs::Speed::alongside_limit))]
 fn alongside_limit(alongside: Alongside, top: u32) -> Standing
     ensures { result ≡ alongside_limit top alongside }
 {
@@ -168,6 +174,7 @@ fn alongside_limit(alongside: Alongside, top: u32) -> Standing
     Standing::none()
 }
 
+#[tactic(auto, unfolding(crate::specs::Speed::crossing_limit))]
 fn crossing_limit(crossing: Crossing, row: Row, top: u32) -> Standing
     ensures { result ≡ crossing_limit row top crossing }
 {
@@ -182,6 +189,7 @@ fn crossing_limit(crossing: Crossing, row: Row, top: u32) -> Standing
     Standing::none()
 }
 
+#[tactic(auto, unfolding(crate::specs::Speed::limit_limit))]
 fn limit_limit(limit: Limit, row: Row, top: u32) -> Standing
     ensures { result ≡ limit_limit row top limit }
 {
@@ -195,6 +203,7 @@ fn limit_limit(limit: Limit, row: Row, top: u32) -> Standing
     Standing::none()
 }
 
+#[tactic(auto, unfolding(crate::specs::Speed::paired_limit, crate::specs::Speed::bts_limit, crate::specs::Speed::main_limit, crate::specs::Speed::limit_limit, crate::specs::Speed::alongside_limit, crate::specs::Speed::crossing_limit))]
 fn paired_limit(limits: FourLimits, speed: u8, top: u32) -> Standing
     ensures { result ≡ paired_limit top limits speed }
 {
@@ -206,6 +215,7 @@ fn paired_limit(limits: FourLimits, speed: u8, top: u32) -> Standing
 }
 
 // The lowest so far, with the paired limits.
+#[tactic(auto, using(crate::proofs::Paired::none_lower))]
 fn or_paired(lowest: Standing, limits: FourLimits, top: u32) -> Standing
     ensures { result ≡ least_of lowest (paired_limits top limits pair_speeds) }
 {
@@ -252,6 +262,7 @@ fn lowest_limit(d: Desk, settings: Settings, top: u32) -> Standing
 }
 
 // The limit that sets S, whose speed is S: the first of those that stand and equal it.
+#[tactic(auto, using(crate::proofs::Reasons::lowest_sets))]
 pub fn reason_at(d: Desk, settings: Settings, top: u32) -> Standing
     ensures { result ≡ reason_of settings top d }
 {
