@@ -7,7 +7,6 @@ use mathlib.Core.Bool.{Bool, true, false, false≢true}
 use mathlib.Core.List.{List, [], ◌∷◌, Memᴰ}
 use lib.Dec.{eqb}
 use borrow.Author.Tests.{eqb-true, eqb-false}
-use Rattle.leaf.specs.Choosing.{pick}
 use Rattle.card.specs.declared.Settings.{Settings}
 use Rattle.curve.specs.Curve.{row_speed}
 use Rattle.signals.specs.declared.control.MainKind.{MainKind}

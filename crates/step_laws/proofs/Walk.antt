@@ -23,7 +23,7 @@ use Rattle.desk.specs.declared.clock.Turn.{Turn}
 use Rattle.desk.specs.State.{with_code, taken_over, crossing_set, limit_now, mode_changed}
 use Rattle.desk.specs.Clock.{same_mode, reminded, main_counts, side_counts, main_missed, side_missed, advanced, begun}
 use Rattle.buttons.specs.Buttons.{chosen, answered_by, main_answered, side_answered, pressed, option_used, limit_removed, reminder_answered, override_armed, stop_increased, limit_stepped, crossing_pressed, limit_pressed, override_pressed, increase_pressed, hide_pressed, lowest_removed, single_first, window_presses, all_presses, presses_of}
-use Rattle.beacons.specs.Beacons.{is_beacon, is_side, reads_of, reading1, reading_row, option_offered, reading3, reading4, zone_or, zone_met, reading7, reading8, reading9, reading_single, speed_of_pair, first_kept, reading_first, pair_set, reading_second, reading_paired, reading_limit, reading_of, read_if, beacon_taken}
+use Rattle.beacons.specs.Beacons.{is_beacon, is_side, reads_of, reading1, reading_row, option_offered, reading3, reading4, zone_or, zone_met, reading7, reading8, reading9, reading_single, reading_first, reading_second, reading_paired, reading_limit, reading_of, read_if, beacon_taken}
 use Rattle.step.specs.declared.Input.{Input}
 use Rattle.step.specs.Step.{has_pairs, moved_of}
 use Rattle.step_laws.specs.Walk.{at_beacon, reads_at, is_limit, reads_limit, Sets, ToBeacon, OfBeacon}
