@@ -1,5 +1,5 @@
 -- What is told of a sample: by its step where it is accepted, and as the sample is answered.
-use mathlib.Core.Path.{◌≡◌, refl, ap, ◌∙◌}
+use mathlib.Core.Path.{◌≡◌, refl}
 use mathlib.Core.Bool.{true, false}
 use Prim.Native.Nat.{ℕ}
 use Rattle.card.specs.declared.Card.{Card}
@@ -12,11 +12,9 @@ use Rattle.step.specs.Reason.{reason_of}
 use Rattle.step.specs.Step.{judged_of, step_of}
 use Rattle.session.specs.declared.Sample.{Sample}
 use Rattle.session.specs.declared.Session.{Session}
-use Rattle.session.specs.declared.Sampled.{Sampled}
 use Rattle.session.specs.declared.Outcome.{Outcome}
 use Rattle.session.specs.declared.Outcome.TheVariants as outcome
 use Rattle.session.specs.declared.Told.TheVariants as told
-use Rattle.session.specs.declared.Asked.{Asked}
 use Rattle.session.specs.Session.{refused_by, carried, stepped, ran_of, sample_of}
 use Rattle.session.specs.Runs.{accepted}
 use Rattle.session.specs.Why.{why_now, explained_of, asked_of, asked_from, sampled_from}

@@ -3,6 +3,8 @@
 //
 // No function has a `requires`. A session, or a sample, that document 01 refuses is refused by its number, and the session
 // handed in comes back unchanged.
+#![tactic(auto)]
+
 ghost use Rattle.std.specs.Prelude.{◌≡◌, ◌*◌};
 ghost use Rattle.session.specs.Types.{type_speed, type_allowed};
 ghost use Rattle.session.specs.Session.{fresh_session, opened_of, judged_of, judge_card, open_session, card_inside, inside_of, refused_by, carried, stepped, sample_of, outcome_of, answer_to};
@@ -119,6 +121,7 @@ fn answered(session: Session, told: Told) -> Sampled
 }
 
 // T of a train type, km/h; 0 where there is no such type.
+#[tactic(auto, unfolding(crate::specs::Types::type_speed))]
 pub fn type_speed(train: u8) -> u8
     ensures { result ≡ type_speed train }
 {
@@ -136,6 +139,7 @@ pub fn type_speed(train: u8) -> u8
 }
 
 // Is the train type one of the eight, and no faster than vmax.
+#[tactic(auto, unfolding(crate::specs::Types::type_allowed))]
 pub fn type_allowed(train: u8, vmax: u8) -> bool
     ensures { result ≡ type_allowed train vmax }
 {
@@ -150,6 +154,7 @@ pub enum Judged {
 }
 
 // Is the card's version known, and are the settings beside it in range: refusal 2, then 5 with its place, as the writer gives them.
+#[tactic(auto, unfolding(crate::specs::Session::judge_card))]
 pub fn judge(card: Card) -> Judged
     ensures { judged_of result ≡ judge_card card }
 {
@@ -166,6 +171,7 @@ pub fn judge(card: Card) -> Judged
 }
 
 // Would opening judge it so.
+#[tactic(auto, unfolding(crate::specs::Session::card_inside, crate::specs::Session::judge_card))]
 fn card_inside(card: Card) -> bool
     ensures { result ≡ card_inside card }
 {
@@ -186,6 +192,7 @@ impl Session {
     }
 
     // Opens a session from a card and a train type: refusal 2, then 5 with its place, then 7.
+    #[tactic(auto, unfolding(crate::specs::Session::open_session))]
     pub fn open(card: Card, train: u8) -> Opened
         ensures { opened_of result ≡ open_session card train }
     {
@@ -205,6 +212,7 @@ impl Session {
     }
 
     // Is every number of the session in its range.
+    #[tactic(auto, unfolding(crate::specs::Session::inside_of))]
     pub fn is_inside(self) -> bool
         ensures { result ≡ inside_of self }
     {
@@ -215,6 +223,7 @@ impl Session {
     }
 
     // The number that refuses the sample, 0 where it is accepted.
+    #[tactic(auto, unfolding(crate::specs::Session::refused_by))]
     fn refusal(self, x: Sample) -> u8
         ensures { result ≡ refused_by self x }
     {
@@ -275,6 +284,7 @@ impl Session {
     }
 
     // One sample, and why its answer's S is what it is.
+    #[tactic(auto, using(crate::proofs::Asking::asked_accepted, crate::proofs::Asking::asked_refused))]
     pub fn ask(self, x: Sample) -> Asked
         ensures { result ≡ asked_of self x }
     {
@@ -291,6 +301,7 @@ impl Session {
     }
 
     // One sample every 100 ms: pulses, beacon code 0..12, buttons newly pressed, mode 1 CONV or 2 BTS.
+    #[tactic(auto, using(crate::proofs::Asking::asked_sampled, crate::proofs::Paper::on_paper))]
     pub fn sample(self, x: Sample) -> Sampled
         ensures value { result ≡ sample_of self x }
         ensures outcome_value { outcome_of result.outcome ≡ answer_to self x }
@@ -302,6 +313,7 @@ impl Session {
     }
 
     // Why S is what it is in this session, as the last sample left it.
+    #[tactic(auto, unfolding(crate::specs::Why::why_now))]
     pub fn why_now(self) -> Why
         ensures { result ≡ why_now self }
     {
