@@ -1,6 +1,8 @@
 // Why S is what it is, as text: of a sample a line of numbers, or a line in words where what is named changed.
 //
 // Each function types from the place `at` on, as those of `text` do. There is no `requires`.
+#![tactic(auto)]
+
 ghost use Rattle.std.specs.Prelude.{◌≡◌, [], ◌∷◌};
 ghost use Rattle.text.specs.Decimal.{line};
 ghost use Rattle.text.specs.Typing.{typed};

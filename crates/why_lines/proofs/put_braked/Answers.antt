@@ -1,0 +1,7 @@
+use Rattle.why_lines.specs.Words.{braked_text}
+use Rattle.text.specs.Typing.{then_typed}
+use Rattle.why_lines.proofs.put_braked.Goals as goal
+
+pub returns : goal.returns
+unfolding braked_text
+returns c = then_typed _ _ _ (then_typed _ _ _ (then_typed _ _ _ c.put_text-at.ensures c.put_tenths-at.ensures) c.put_text-at-2.ensures) c.put_cause.ensures
