@@ -148,6 +148,7 @@ impl Ride {
     }
 
     // One more sample.
+    #[tactic(auto, unfolding(crate::specs::Ride::turn_of, crate::specs::Ride::turn_shows, session::specs::Session::sample_of, crate::specs::Ride::told_of, session::specs::Session::answer_to, session::specs::Session::ran_of, session::specs::Session::refused_by, step::specs::Step::step_of, session::specs::Types::type_speed))]
     pub fn turn(self, x: Sample) -> Turned
         ensures value { result ≡ turn_of self x }
         ensures shown_value { shown_of result.shown ≡ turn_shows self x }
