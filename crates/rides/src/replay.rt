@@ -106,7 +106,6 @@ fn so_far(ride: Ride, last: Last, place: u16, ran: u16) -> Replayed
 }
 
 // n samples from a place on, up to the first of them that is refused.
-#[tactic(auto, unfolding(crate::specs::Replay::ran_from, crate::specs::Ride::ride_from, crate::specs::Replay::last_from, crate::specs::Replay::steps_from))]
 fn run(recording: &[u8], place: u16, session: Session, n: u16) -> Replayed
     requires { place + n ≤ 65535 }
     ensures { result ≡ ran_from session recording.now place n }
