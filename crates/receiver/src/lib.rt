@@ -3,6 +3,8 @@
 //
 // No public function has a `requires`: each is total on every receiver handed in, and ensures that its result is what the
 // definition of specs/ that it names gives.
+#![tactic(auto)]
+
 ghost use Rattle.std.specs.Prelude.{◌≡◌, ◌<◌};
 ghost use Rattle.receiver.specs.Receiver.{with_part, with_session, with_status, no_part, fresh_receiver, started_of, start_receiver, quietly, refused_with, counted_in, high_in, low_in, length_fits, head_fits, stated_with, opened_with, head_takes, part_fits, part_with, completed_by, sample_takes, open_takes, take_of, end_as, end_of};
 ghost use Rattle.receiver.specs.declared.Status.TheVariants.{Open};
