@@ -9,7 +9,7 @@ use Rattle.step.specs.declared.Answer.{Answer as Told}
 use Rattle.session.specs.declared.Session.{Session}
 use Rattle.text.specs.Decimal.{ended, newline, line}
 use Rattle.rides.specs.Recording.{samples_in}
-use Rattle.rides.specs.Ride.{start_ride, fresh_ride, ride_after, turn_at, whole_ride}
+use Rattle.rides.specs.Ride.{start_ride, fresh_ride, ride_after, whole_ride}
 use Rattle.rides.specs.declared.ride.Ride.{Ride}
 use Rattle.rides.specs.declared.ride.Shown.{Shown}
 use Rattle.rides.specs.declared.ride.Shown.TheVariants as shown

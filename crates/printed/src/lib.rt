@@ -1,5 +1,7 @@
 // The printed ride: a heading, a line a sample, and the line that ends a refused one, typed into a lent buffer; the answers alone, or with
 // the reason of each S as a column more.
+#![tactic(auto)]
+
 ghost use Rattle.std.specs.Prelude.{◌≡◌, [], ◌∷◌, min, ◌≤◌, length};
 ghost use Rattle.leaf.specs.Bytes.{over};
 ghost use Rattle.card.specs.Reading.{found_of};
