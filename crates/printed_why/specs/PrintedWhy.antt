@@ -8,7 +8,7 @@ use Rattle.session.specs.Why.{why_now}
 use Rattle.why_lines.specs.Numbers.{why_line}
 use Rattle.why_lines.specs.Words.{words_text}
 use Rattle.rides.specs.Recording.{samples_in}
-use Rattle.rides.specs.Ride.{start_ride, fresh_ride, ride_after, turn_at}
+use Rattle.rides.specs.Ride.{fresh_ride, ride_after, turn_at}
 use Rattle.rides.specs.declared.ride.Ride.{Ride}
 use Rattle.rides.specs.declared.ride.Shown.{Shown}
 use Rattle.rides.specs.declared.ride.Shown.TheVariants as shown
