@@ -1,4 +1,6 @@
 // The lines of a ride that comes in pieces, typed into a lent buffer as each piece is taken.
+#![tactic(auto)]
+
 ghost use Rattle.std.specs.Prelude.{◌≡◌, min, ◌≤◌, length};
 ghost use Rattle.leaf.specs.Bytes.{over};
 ghost use Rattle.text.specs.Typing.{typed};
