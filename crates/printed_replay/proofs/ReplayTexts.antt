@@ -22,7 +22,7 @@ use Rattle.rides.specs.declared.replay.Last.TheVariants as last
 use Rattle.rides.specs.declared.replay.End.{End}
 use Rattle.rides.specs.declared.replay.End.TheVariants as end
 use Rattle.rides.proofs.Replays.{steps_low, few_samples}
-use Rattle.printed.specs.Printed.{refused_line, columns_of, shown_text, start_after, start_on}
+use Rattle.printed.specs.Printed.{refused_line, columns_of, shown_text, start_on}
 use Rattle.printed.specs.declared.Columns.TheVariants.{Whole}
 use Rattle.printed.proofs.Room.{shown_length}
 use Rattle.printed_replay.specs.Word.{most_quota}

@@ -5,7 +5,6 @@ use Rattle.leaf.specs.Answers.{Answer, given, refused, refused_at}
 use Rattle.session.specs.declared.Session.{Session}
 use Rattle.text.specs.Decimal.{ended, newline, blank, line}
 use Rattle.text.specs.Words.{ascii, refused_by}
-use Rattle.rides.specs.Ride.{start_ride}
 use Rattle.rides.specs.Replay.{replay_of}
 use Rattle.rides.specs.declared.replay.Last.{Last}
 use Rattle.rides.specs.declared.replay.Last.TheVariants as last

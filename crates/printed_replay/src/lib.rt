@@ -2,6 +2,8 @@
 //
 // No public function has a `requires`. Each ensures that its result, and every byte of a lent buffer, is what the
 // definition of specs/ that it names gives.
+#![tactic(auto)]
+
 ghost use Rattle.std.specs.Prelude.{◌≡◌, ◌+◌, ◌*◌, min, ◌≤◌, length};
 ghost use Rattle.leaf.specs.Bytes.{over};
 ghost use Rattle.session.specs.Session.{opened_of};
@@ -133,6 +135,7 @@ pub struct Printed {
     pub length: usize,
 }
 
+#[tactic(auto, using(crate::proofs::ReplayTexts::place_fits))]
 fn put_quota(
     recording: &[u8],
     place: u16,
