@@ -12,7 +12,7 @@ use Rattle.leaf.specs.Choosing.{pick}
 use Rattle.leaf.specs.Answers.{given, refused}
 use Rattle.card.specs.declared.Card.{Card}
 use Rattle.card.specs.Card.{speaks, Same}
-use Rattle.card.specs.Reading.{read_card, card_in}
+use Rattle.card.specs.Reading.{card_in}
 use Rattle.card.proofs.Silence.{silence, card_silence}
 use Rattle.card.proofs.Versions.{knows_1_refuses_2, knows_older_refuses_3, same_card}
 use Rattle.step.specs.declared.Answer.{Answer}
@@ -24,7 +24,7 @@ use Rattle.session.specs.Session.{fresh_session, open_session, card_inside}
 use Rattle.session.specs.Runs.{outcomes}
 use Rattle.rides.specs.Recording.{train_of, samples_of}
 use Rattle.printed.specs.declared.Columns.{Columns}
-use Rattle.printed.specs.Printed.{highest, printed_as, printed_ride}
+use Rattle.printed.specs.Printed.{highest, printed_ride}
 use Rattle.printed.specs.declared.Form.TheVariants.{Answers}
 use Rattle.printed.proofs.Computes.{card}
 use Rattle.printed.proofs.Silence.{print_silence}
@@ -35,7 +35,7 @@ use Rattle.demands.specs.Demand3.{SameWithout, first_lines, Demand3, HypothesesM
 use Rattle.demands.proofs.Later.{later}
 use Rattle.demands.proofs.Alike.{alike_fresh}
 use Rattle.demands.proofs.Cards.{its_settings, its_range, common, opens, rides_alike}
-use Rattle.demands.proofs.Hushed.{beside_it, same_outcomes}
+use Rattle.demands.proofs.Hushed.{same_outcomes}
 use Rattle.demands.proofs.Prints.{prints_alike, prints_same}
 use Rattle.demands.proofs.Computes.{definitions}
 

@@ -3,17 +3,14 @@ use Prim.Native.Nat.{ℕ, suc}
 use mathlib.Core.Bool.{Bool, true, false, ◌&&◌, ◌||◌, not}
 use mathlib.Core.Path.{◌≡◌, refl, sym, ap, ◌∙◌}
 use mathlib.Core.List.{List, [], ◌∷◌}
-use lib.Dec.{eqb}
 use lib.ListN.{length, take}
 use lib.Seq.{take-length}
 use borrow.Author.Tests.{eq-eqb}
 use Rattle.leaf.specs.Choosing.{pick}
 use Rattle.card.specs.declared.Card.{Card}
 use Rattle.card.specs.Card.{protects, zones, reminds, reads_in_bts_bit}
-use Rattle.step.specs.Step.{has_pairs}
 use Rattle.session.specs.declared.Sample.{Sample}
 use Rattle.session.specs.declared.Session.{Session}
-use Rattle.session.specs.declared.Outcome.{Outcome}
 use Rattle.session.specs.Session.{fresh_session, card_inside, ran_of, sample_of}
 use Rattle.session.specs.Runs.{accepted, outcomes}
 use Rattle.session.proofs.Runs.{accepted_runs, refused_stays}

@@ -1,6 +1,5 @@
 -- The opening from loose settings is answered exactly as is said of it; and what is shut out of it.
 use Prim.Native.Nat.{ℕ}
-use native.Mathlib.Omega.{arith}
 use mathlib.Core.Bool.{Bool, true, false, false≢true}
 use mathlib.Core.Path.{◌≡◌, refl, sym, ◌∙◌}
 use Rattle.leaf.specs.Choosing.{pick}

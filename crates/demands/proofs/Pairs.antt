@@ -1,14 +1,12 @@
 -- Request g holds, and its examples.
 use Prim.Native.Nat.{ℕ}
-use mathlib.Core.Path.{◌≡◌, refl, sym, ap, ◌∙◌}
-use mathlib.Core.Bool.{Bool, true, false}
+use mathlib.Core.Path.{◌≡◌, refl}
+use mathlib.Core.Bool.{false}
 use mathlib.Core.List.{List}
-use lib.Dec.{eqb}
 use borrow.Author.Tests.{ne_eqb}
 use Rattle.leaf.specs.Answers.{given}
 use Rattle.card.specs.declared.Card.{Card}
 use Rattle.sides.specs.Pairs.{nothing_paired}
-use Rattle.desk.specs.State.{fresh_desk}
 use Rattle.session.specs.declared.Sample.{Sample}
 use Rattle.session.specs.declared.Session.{Session}
 use Rattle.session.specs.Session.{fresh_session, open_session, refused_by, carried, ran_of, sample_of}

@@ -11,40 +11,35 @@ use Rattle.card.specs.declared.Card.{Card}
 use Rattle.card.specs.declared.Pairs.{Pairs}
 use Rattle.card.specs.declared.Row.{Row}
 use Rattle.card.specs.declared.Settings.{Settings}
-use Rattle.card.specs.Card.{protects, zones, reminds, reads_in_bts_bit}
-use Rattle.curve.specs.Curve.{row_speed}
+use Rattle.card.specs.Card.{reminds}
 use Rattle.signals.specs.Windows.{answers_of}
-use Rattle.sides.specs.declared.limit.Limit.{Limit}
 use Rattle.sides.specs.declared.pairs.Paired.{Paired}
 use Rattle.sides.specs.Limit.{may_step, stepped_final, removable}
-use Rattle.sides.specs.Pairs.{first_older, paired_older, four_older, all_older, nothing_paired, no_paired, none_of_four, four_with, any_paired, paired_goes, lowest_to_go, paired_speed}
+use Rattle.sides.specs.Pairs.{first_older, paired_older, four_older, all_older, nothing_paired, no_paired, four_with, any_paired, paired_goes, lowest_to_go, paired_speed}
 use Rattle.leaf.specs.Checks.{or_fault}
 use Rattle.desk.specs.declared.state.Desk.{Desk}
 use Rattle.desk.specs.declared.clock.Turn.{Turn}
-use Rattle.desk.specs.State.{with_code, with_main, taken_over, crossing_set, limit_now, mode_changed}
+use Rattle.desk.specs.State.{with_code, taken_over, crossing_set, limit_now, mode_changed}
 use Rattle.desk.specs.Beside.{beside_older}
 use Rattle.desk.specs.Clock.{desk_older, reminded, begun}
-use Rattle.buttons.specs.Buttons.{main_answered, side_answered, pressed, free_for, option_used, limit_removed, paired_removed, single_first, lowest_removed, reminder_answered, override_armed, stop_increased, limit_stepped, limit_pressed, increase_pressed, hide_pressed, crossing_pressed, window_presses, all_presses, presses_of}
+use Rattle.buttons.specs.Buttons.{main_answered, side_answered, pressed, free_for, option_used, limit_removed, paired_removed, lowest_removed, reminder_answered, override_armed, stop_increased, limit_stepped, limit_pressed, increase_pressed, hide_pressed, crossing_pressed, window_presses, all_presses, presses_of}
 use Rattle.beacons.specs.Beacons.{reads_of, main_opened, side_opened, option_offered, reading4, stopped, reading_single, reading_limit, reading_of, read_if, beacon_taken}
 use Rattle.step.specs.declared.Input.{Input}
 use Rattle.step.specs.declared.Answer.{Answer}
-use Rattle.step.specs.declared.Stepped.{Stepped}
 use Rattle.step.specs.Speed.{crossing_turned, limits, supervised_of, paired_limit, lower}
 use Rattle.step.specs.Reason.{first_at, reason_of}
 use Rattle.step.specs.Brake.{braked}
 use Rattle.step.specs.Step.{has_pairs, limit_goes, moved_of, answer_of, arose_of, judged_of, step_of}
 use Rattle.desk.specs.Brake.{standstill}
-use Rattle.step_laws.specs.Walk.{at_beacon, Sets, ToBeacon, OfBeacon}
+use Rattle.step_laws.specs.Walk.{Sets, ToBeacon, OfBeacon}
 use Rattle.step_laws.proofs.Choosing.{pick_has}
 use Rattle.step_laws.proofs.Walk.{AnyReading, sets_any, begun_has, at_limit, limit_pressed_lem, at_beacon_lem, after_beacon}
 use Rattle.session.specs.declared.Sample.{Sample}
 use Rattle.session.specs.declared.Session.{Session}
-use Rattle.session.specs.declared.Sampled.{Sampled}
 use Rattle.session.specs.declared.Outcome.{Outcome}
 use Rattle.session.specs.Types.{type_speed}
-use Rattle.session.specs.Session.{fresh_session, open_session, refused_by, carried, ran_of, sample_of}
+use Rattle.session.specs.Session.{carried, ran_of, sample_of}
 use Rattle.session.specs.Runs.{accepted, after, outcomes}
-use Rattle.session.proofs.Opening.{opening_fresh}
 use Rattle.session.proofs.Runs.{accepted_runs, refused_stays}
 use Rattle.demands.specs.Unpaired.{limit_pressed01, may_step01, increase_pressed01, presses_of01, reading_limit01, reading_of01, beacon_taken01, moved_of01, limits01, supervised01, answer_of01, judged_of01, step_of01, sample_of01, outcomes01}
 use Rattle.demands.proofs.Hushed.{card_kept}

@@ -1,6 +1,5 @@
 -- Request f, how many samples ago the brake came on: the brake's age along the accepted samples.
 use Prim.Native.Nat.{ℕ, ◌+◌, min, ◌≤◌, ◌<◌}
-use native.Mathlib.Nat.{zero-add}
 use native.Mathlib.Omega.{arith}
 use mathlib.Core.Bool.{Bool, true, false, ◌&&◌, not}
 use mathlib.Core.List.{List, [], ◌∷◌, ◌++◌}

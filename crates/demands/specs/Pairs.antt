@@ -5,9 +5,8 @@
 -- What a card of version 3 is and when it is accepted is demand 1's (`cards`, `writes`, over every version), that it is read back demand 2's, what
 -- stays silent demand 3's; the opening, "2, then 5", then 7, is in Opening. Here is what a sample does, of every session, and what versions 1 and 2 answer.
 use Rattle.std.specs.Prelude.{ℕ, ◌≡◌, true, false, List, [], ◌∷◌}
-use Rattle.leaf.specs.Answers.{Answer, given, refused_at}
+use Rattle.leaf.specs.Answers.{Answer, given}
 use Rattle.card.specs.declared.Card.{Card}
-use Rattle.card.specs.CardC.{card_c}
 use Rattle.sides.specs.Pairs.{nothing_paired}
 use Rattle.session.specs.declared.Sample.{Sample}
 use Rattle.session.specs.declared.Session.{Session}

@@ -6,7 +6,7 @@
 --
 -- What a byte and an announced end do to a receiver is defined in crate `receiver`, the lines that they print in `printed`. Here it is
 -- said what that comes to, of bytes put together; that the cutting does not matter is the first statement. (a1 to a11 are 02's readings.)
-use Rattle.std.specs.Prelude.{ℕ, ◌+◌, ◌*◌, ◌≤◌, ◌<◌, true, false, ◌↔◌, ◌≡◌, length, drop, eqb}
+use Rattle.std.specs.Prelude.{ℕ, ◌+◌, ◌*◌, ◌≤◌, ◌<◌, true, false, ◌≡◌, length, drop, eqb}
 use mathlib.Core.List.{List, [], ◌∷◌, ◌++◌, map, flatten}
 use Rattle.leaf.specs.Choosing.{pick}
 use Rattle.leaf.specs.Answers.{Answer, given, refused, refused_at}
@@ -22,7 +22,7 @@ use Rattle.session.specs.declared.Outcome.{Outcome}
 use Rattle.session.specs.declared.Outcome.TheVariants as outcome
 use Rattle.session.specs.Session.{open_session, sample_of, outcome_of}
 use Rattle.session.specs.Runs.{after, outcomes, all_accepted}
-use Rattle.rides.specs.Recording.{good_recording, samples_in, train_of, place_of, first_samples, samples_of}
+use Rattle.rides.specs.Recording.{good_recording, train_of, place_of, first_samples, samples_of}
 use Rattle.rides.specs.Ride.{fresh_ride, number_of, shown_of, run_of, whole_ride}
 use Rattle.rides.specs.declared.ride.Shown.{Shown}
 use Rattle.rides.specs.declared.ride.Shown.TheVariants as shown

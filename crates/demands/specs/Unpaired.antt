@@ -1,6 +1,6 @@
 -- The sample as it was before document 02 g: documents 01 and 02 b, c and f with single limits alone, the card's version unknown to it. It stands here
 -- so that what cards of version 1 and 2 answer is said against it. What did not change is cited; what did is written as it was.
-use Rattle.std.specs.Prelude.{ℕ, ◌*◌, Bool, true, false, ◌&&◌, not, List, [], ◌∷◌, leb, ltb, eqb}
+use Rattle.std.specs.Prelude.{ℕ, ◌*◌, Bool, false, ◌&&◌, not, List, [], ◌∷◌, leb, ltb, eqb}
 use Rattle.leaf.specs.Choosing.{pick}
 use Rattle.leaf.specs.Numbers.{bit_of}
 use Rattle.leaf.specs.Buttons.{crossing_button, limit_button, override_button, increase_button, hide_button, rearm_button}

@@ -10,7 +10,6 @@
 use Rattle.std.specs.Prelude.{ℕ, min, ◌≤◌, ◌<◌, Bool, true, false, List, [], ◌∷◌, ◌++◌, ◌≡◌, length, take}
 use Rattle.leaf.specs.Answers.{Answer, given, refused, refused_at}
 use Rattle.leaf.specs.declared.Refusal.TheVariants.{Number}
-use Rattle.card.specs.declared.Row.{Row}
 use Rattle.card.specs.declared.Card.{Card}
 use Rattle.card.specs.Card.{Same}
 use Rattle.card.specs.Reading.{card_in}
