@@ -6,13 +6,16 @@ import re
 import signal
 import subprocess
 import sys
+import time
 
 ROOT = pathlib.Path(__file__).resolve().parent.parent
 
 # How many seconds a crate takes on two cores, the rest of the machine idle and busy.
 SECONDS = (15, 22)
 
-PROVED = re.compile(r"rt: (\w+ proved .*)")
+# What rt says of each crate that it proves: its name in some lines, and last the verdict.
+CRATE = re.compile(r"(?:fn (\w+)::|crate (\w+): modules )")
+PROVED = re.compile(r"logic=proved\b")
 
 
 def needs():
@@ -30,10 +33,17 @@ def below(name, of):
     return {name}.union(*(below(crate, of) for crate in of[name] if crate in of))
 
 
+def program_of(crate):
+    """The program of a crate, as rt leaves it in the crate's folder."""
+    return ROOT / "crates" / crate / "out" / crate
+
+
 def is_old(crate):
     """Has a crate changed since it was proved, as far as the times of its files say?"""
-    stamp = ROOT / "target" / "stamp" / crate
-    return not stamp.exists() or any(p.stat().st_mtime > stamp.stat().st_mtime for p in (ROOT / "crates" / crate).rglob("*"))
+    folder = ROOT / "crates" / crate
+    stamp = folder / "out" / f"{crate}.stamp" if (folder / "src" / "main.rt").exists() else folder / "out" / "rlib" / "stamp"
+    return not stamp.exists() or any(p.stat().st_mtime > stamp.stat().st_mtime for part in folder.iterdir() if part.name != "out"
+                                     for p in [part, *part.rglob("*")])
 
 
 def to_prove(name):
@@ -76,16 +86,20 @@ def main(name):
     stop_plainly(name)
     every, old = to_prove(name)
     print(beforehand(name, every, old), flush=True)
-    said, done = [], 0
-    with subprocess.Popen(["rt", "check", name], cwd=ROOT, text=True, stdin=subprocess.DEVNULL, stdout=subprocess.PIPE,
-                          stderr=subprocess.STDOUT) as check:
-        for line in check.stdout:
+    program_of(name).unlink(missing_ok=True)  # what is there afterwards is of these sources
+    said, done, crate, begun = [], every - old, name, time.monotonic()
+    # rt also runs the program: without arguments and input, which does nothing, and what it prints is not passed on.
+    with subprocess.Popen(["rt", "run"], cwd=ROOT / "crates" / name, text=True, errors="replace", stdin=subprocess.DEVNULL,
+                          stdout=subprocess.DEVNULL, stderr=subprocess.PIPE) as run:
+        for line in run.stderr:
             said.append(line)
-            proved = PROVED.match(line)
-            done += bool(proved)
-            if proved and "unchanged" not in proved[1]:
-                print(f"{name}: {done} of {every}: {proved[1]}", flush=True)
-    if check.returncode != 0:
+            if of_crate := CRATE.match(line):
+                crate = of_crate[1] or of_crate[2]
+            if PROVED.match(line):
+                done = min(done + 1, every)
+                print(f"{name}: {done} of {every}: {crate} proved ({time.monotonic() - begun:.0f} s)", flush=True)
+                begun = time.monotonic()
+    if not program_of(name).exists():
         print(*said, f"{name}: not proved, so there is nothing to run", sep="")
         sys.exit(2)
 
