@@ -78,6 +78,7 @@ fn length_fits(stated: u16) -> bool
 }
 
 // May the byte stand at this place of the head: where not, no good recording begins so.
+#[tactic(auto, unfolding(crate::specs::Receiver::head_fits))]
 fn head_fits(stated: u16, place: u16, b: u8) -> bool
     ensures { result ≡ head_fits stated place b }
 {
@@ -92,6 +93,7 @@ fn head_fits(stated: u16, place: u16, b: u8) -> bool
 }
 
 // The stated length with the byte of this place.
+#[tactic(auto, unfolding(crate::specs::Receiver::stated_with))]
 fn stated_with(stated: u16, place: u16, b: u8) -> u16
     ensures { result ≡ stated_with stated place b }
 {
@@ -117,6 +119,7 @@ fn no_part() -> Sample
 }
 
 // May the byte stand at this place of a sample: where not, the sample is refused 9 whatever follows.
+#[tactic(auto, unfolding(crate::specs::Receiver::part_fits))]
 fn part_fits(place: u16, b: u8) -> bool
     ensures { result ≡ part_fits place b }
 {
@@ -128,6 +131,7 @@ fn part_fits(place: u16, b: u8) -> bool
 }
 
 // The sample with the byte of this place.
+#[tactic(auto, unfolding(crate::specs::Receiver::part_with))]
 fn part_with(mut x: Sample, place: u16, b: u8) -> Sample
     ensures { result ≡ part_with x place b }
 {
@@ -178,6 +182,7 @@ impl Receiver {
     }
 
     // Starts a receiver on this card: refusal 2, then 5 with its place, before any byte.
+    #[tactic(auto, unfolding(crate::specs::Receiver::start_receiver))]
     pub fn start(card: Card) -> Started
         ensures { started_of result ≡ start_receiver card }
     {
@@ -216,6 +221,7 @@ impl Receiver {
     }
 
     // It is refused: the status alone changes.
+    #[tactic(auto, unfolding(crate::specs::Receiver::refused_with))]
     fn refuse(self, n: u8) -> Received
         ensures { result ≡ refused_with n self }
     {
@@ -243,6 +249,7 @@ impl Receiver {
     // ---- the head
 
     // The byte is the train type: a session is opened with it.
+    #[tactic(auto, unfolding(crate::specs::Receiver::opened_with, session::specs::Session::open_session, crate::specs::Receiver::refused_with, session::specs::Session::judge_card))]
     fn take_train(self, train: u8) -> Received
         requires { self.taken < 65535 }
         ensures { result ≡ opened_with self (open_session self.session.card train) }
@@ -258,6 +265,7 @@ impl Receiver {
         }
     }
 
+    #[tactic(auto, unfolding(crate::specs::Receiver::head_takes))]
     fn take_head(mut self, b: u8) -> Received
         requires { self.taken < 65535 }
         ensures { result ≡ head_takes self b }
@@ -280,6 +288,7 @@ impl Receiver {
     // ---- the samples
 
     // A sample is complete and has been run.
+    #[tactic(auto, unfolding(crate::specs::Receiver::completed_by))]
     fn complete(self, turned: Turned) -> Received
         requires { self.taken < 65535 }
         ensures { result ≡ completed_by self turned }
@@ -299,6 +308,7 @@ impl Receiver {
         }
     }
 
+    #[tactic(auto, unfolding(crate::specs::Receiver::sample_takes))]
     fn take_sample(self, b: u8) -> Received
         requires { self.taken < 65535 }
         ensures { result ≡ sample_takes self b }
@@ -320,6 +330,7 @@ impl Receiver {
 
     // ---- a byte, and the end
 
+    #[tactic(auto, unfolding(crate::specs::Receiver::open_takes))]
     fn take_open(self, b: u8) -> Received
         ensures { result ≡ open_takes self b }
     {
@@ -333,6 +344,7 @@ impl Receiver {
     }
 
     // One byte more. A receiver that has refused stays as it is.
+    #[tactic(auto, unfolding(crate::specs::Receiver::take_of, crate::specs::Receiver::take_as))]
     pub fn take(self, b: u8) -> Received
         ensures { result ≡ take_of self b }
     {
@@ -344,6 +356,7 @@ impl Receiver {
         }
     }
 
+    #[tactic(auto, unfolding(crate::specs::Receiver::end_as))]
     fn end_open(self) -> Received
         ensures { result ≡ end_as Open self }
     {
@@ -355,6 +368,7 @@ impl Receiver {
     }
 
     // The sender announces the end: 14 where bytes are missing.
+    #[tactic(auto, unfolding(crate::specs::Receiver::end_of, crate::specs::Receiver::end_as))]
     pub fn end(self) -> Received
         ensures { result ≡ end_of self }
     {
