@@ -132,6 +132,7 @@ fn put_all_pairs(out: &mut [u8], at: usize, pairs: Pairs) -> usize
 }
 
 // Cards of other versions have no pairs, and nothing is said of them.
+#[tactic(auto, unfolding(text::specs::Typing::typed, crate::specs::Shown::pairs_text))]
 fn put_pairs(out: &mut [u8], at: usize, version: u8, pairs: Pairs) -> usize
     ensures { (out.new, result) ≡ typed (pairs_text version pairs) (out.old, at) }
 {
