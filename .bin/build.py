@@ -11,7 +11,7 @@ import time
 ROOT = pathlib.Path(__file__).resolve().parent.parent
 
 # How many seconds a crate takes on two cores, the rest of the machine idle and busy.
-SECONDS = (15, 22)
+SECONDS = (22, 33)
 
 # What rt says of each crate that it proves: its name in some lines, and last the verdict.
 CRATE = re.compile(r"(?:fn (\w+)::|crate (\w+): modules )")
