@@ -3,10 +3,10 @@ ghost use Rattle.std.specs.Prelude.{◌≡◌};
 ghost use Rattle.signals.specs.MainControl.{main_of, main_older, is_stop, is_before_stop, limits_of, near_of, may_increase, increase_lit, increased};
 
 // The stop zone is for under 80 m.
-const ZONE_DISTANCE: u32 = 800000;
+const ZONE_DISTANCE: u32 = 800_000;
 
 // `Clear` is no main limit: after beacon 3, and in BTS.
-#[derive(Clone, Copy)]
+#[derive(Clone, Copy, PartialEq, Eq)]
 pub enum MainKind {
     Clear,
     Start,
@@ -19,7 +19,8 @@ pub enum MainKind {
     Zone,
 }
 
-// `increased` is said of stop only.
+// `increased` is said of stop only. `Clear` and no `Option`: refusal 8 is promised of a session whose age or distance here is out of range,
+// also where it is clear (`desk_inside`).
 #[derive(Clone, Copy)]
 pub struct Main {
     pub kind: MainKind,
@@ -34,9 +35,9 @@ impl Main {
         ensures { result ≡ main_of kind age distance }
     {
         Main {
-            kind: kind,
-            age: age,
-            distance: distance,
+            kind,
+            age,
+            distance,
             increased: false,
         }
     }
@@ -45,65 +46,30 @@ impl Main {
     pub fn older(self, m: u32) -> Main
         ensures { result ≡ main_older m self }
     {
-        let kind = self.kind;
         Main {
-            kind: kind,
             age: leaf::older(self.age),
             distance: leaf::further(self.distance, m),
-            increased: self.increased,
+            ..self
         }
     }
 
     pub fn is_stop(self) -> bool
         ensures { result ≡ is_stop self.kind }
     {
-        let kind = self.kind;
-        match kind {
-            MainKind::Clear => false,
-            MainKind::Start => false,
-            MainKind::ConditionalClear => false,
-            MainKind::Announcement => false,
-            MainKind::Preannouncement => false,
-            MainKind::Caution => false,
-            MainKind::BeforeStop => false,
-            MainKind::Stop => true,
-            MainKind::Zone => false,
-        }
+        self.kind == MainKind::Stop
     }
 
     pub fn is_before_stop(self) -> bool
         ensures { result ≡ is_before_stop self.kind }
     {
-        let kind = self.kind;
-        match kind {
-            MainKind::Clear => false,
-            MainKind::Start => false,
-            MainKind::ConditionalClear => false,
-            MainKind::Announcement => false,
-            MainKind::Preannouncement => false,
-            MainKind::Caution => false,
-            MainKind::BeforeStop => true,
-            MainKind::Stop => false,
-            MainKind::Zone => false,
-        }
+        self.kind == MainKind::BeforeStop
     }
 
     // Does it limit the speed: every one but clear.
     pub fn limits(self) -> bool
         ensures { result ≡ limits_of self.kind }
     {
-        let kind = self.kind;
-        match kind {
-            MainKind::Clear => false,
-            MainKind::Start => true,
-            MainKind::ConditionalClear => true,
-            MainKind::Announcement => true,
-            MainKind::Preannouncement => true,
-            MainKind::Caution => true,
-            MainKind::BeforeStop => true,
-            MainKind::Stop => true,
-            MainKind::Zone => true,
-        }
+        self.kind != MainKind::Clear
     }
 
     // The stop-zone rule: row 4 is main and under 80 m from its reading.
@@ -111,7 +77,7 @@ impl Main {
     pub fn near(self) -> bool
         ensures { result ≡ near_of self }
     {
-        self.is_before_stop() & (self.distance < ZONE_DISTANCE)
+        self.is_before_stop() && self.distance < ZONE_DISTANCE
     }
 
     // Has stop use for increase.
@@ -119,7 +85,7 @@ impl Main {
     pub fn may_increase(self) -> bool
         ensures { result ≡ may_increase self }
     {
-        self.is_stop() & !self.increased & (1 <= self.age) & (self.age <= 99)
+        self.is_stop() && !self.increased && 1 <= self.age && self.age <= 99
     }
 
     // Is the lamp of increase lit for stop.
@@ -127,13 +93,15 @@ impl Main {
     pub fn increase_lit(self) -> bool
         ensures { result ≡ increase_lit self }
     {
-        self.is_stop() & !self.increased & (self.age <= 99)
+        self.is_stop() && !self.increased && self.age <= 99
     }
 
-    pub fn increase(mut self) -> Main
+    pub fn increase(self) -> Main
         ensures { result ≡ increased self }
     {
-        self.increased = true;
-        self
+        Main {
+            increased: true,
+            ..self
+        }
     }
 }

@@ -4,6 +4,7 @@ ghost use Rattle.signals.specs.Stop.{stop_speed, none_alongside, starts_alongsid
 
 use crate::control::Main;
 
+// A flag and no `Option`: refusal 8 is promised of a session whose age here is out of range, also where no stop stays alongside (`desk_inside`).
 #[derive(Clone, Copy)]
 pub struct Alongside {
     pub on: bool,
@@ -11,6 +12,7 @@ pub struct Alongside {
     pub increased: bool,
 }
 
+// A flag and no `Option`: refusal 8 is promised of a session whose age here is out of range, also where none is armed (`desk_inside`).
 #[derive(Clone, Copy)]
 pub struct Override {
     pub armed: bool,
@@ -18,7 +20,7 @@ pub struct Override {
 }
 
 // `Due`: the stop of a beacon 8 passed under override, not yet 200 m back. `Pressed`: the first was answered.
-#[derive(Clone, Copy)]
+#[derive(Clone, Copy, PartialEq, Eq)]
 pub enum Phase {
     Off,
     Due,
@@ -27,7 +29,8 @@ pub enum Phase {
     Second,
 }
 
-// `age` is that of the lit reminder; `fast` counts the samples at 5 km/h or more and `distance` the travel since the press.
+// `age` is that of the lit reminder; `fast` counts the samples at 5 km/h or more and `distance` the travel since the press. They stand
+// beside every phase: refusal 8 is promised of a session with one of them out of range, also where the reminder is off (`desk_inside`).
 #[derive(Clone, Copy)]
 pub struct Reminder {
     pub phase: Phase,
@@ -40,7 +43,7 @@ pub struct Reminder {
 pub fn stop_speed(increased: bool, top: u32) -> u32
     ensures { result ≡ stop_speed increased top }
 {
-    leaf::choose32(increased, leaf::least(top, 10000), 4000)
+    if increased { top.min(10_000) } else { 4000 }
 }
 
 impl Alongside {
@@ -61,7 +64,7 @@ impl Alongside {
         Alongside {
             on: true,
             age: 0,
-            increased: increased,
+            increased,
         }
     }
 
@@ -71,9 +74,9 @@ impl Alongside {
     {
         let age = leaf::older(self.age);
         Alongside {
-            on: self.on & (age < 200),
-            age: age,
-            increased: self.increased,
+            on: self.on && age < 200,
+            age,
+            ..self
         }
     }
 
@@ -82,8 +85,7 @@ impl Alongside {
     pub fn after(self, main: Main) -> Alongside
         ensures { result ≡ alongside_after main self }
     {
-        let was_stop = main.is_stop();
-        if was_stop {
+        if main.is_stop() {
             Alongside::starts(main.increased)
         } else {
             self
@@ -116,8 +118,8 @@ impl Override {
     {
         let age = leaf::older(self.age);
         Override {
-            armed: self.armed & (age < 100),
-            age: age,
+            armed: self.armed && age < 100,
+            age,
         }
     }
 }
@@ -128,7 +130,7 @@ impl Reminder {
         ensures { result ≡ fresh_as phase }
     {
         Reminder {
-            phase: phase,
+            phase,
             age: 0,
             fast: 0,
             distance: 0,
@@ -139,73 +141,48 @@ impl Reminder {
     pub fn older(self, m: u32) -> Reminder
         ensures { result ≡ reminder_older m self }
     {
-        let phase = self.phase;
-        let slow = leaf::below(m, 500);
+        let fast = if leaf::below(m, 500) {
+            self.fast
+        } else {
+            leaf::older(self.fast)
+        };
         Reminder {
-            phase: phase,
             age: leaf::older(self.age),
-            fast: leaf::choose16(slow, self.fast, leaf::older(self.fast)),
+            fast,
             distance: leaf::further(self.distance, m),
+            ..self
         }
     }
 
     pub fn is_off(self) -> bool
         ensures { result ≡ is_off self.phase }
     {
-        let phase = self.phase;
-        match phase {
-            Phase::Off => true,
-            Phase::Due => false,
-            Phase::First => false,
-            Phase::Pressed => false,
-            Phase::Second => false,
-        }
+        self.phase == Phase::Off
     }
 
     pub fn is_lit(self) -> bool
         ensures { result ≡ is_lit self.phase }
     {
-        let phase = self.phase;
-        match phase {
-            Phase::Off => false,
-            Phase::Due => false,
-            Phase::First => true,
-            Phase::Pressed => false,
-            Phase::Second => true,
-        }
+        matches!(self.phase, Phase::First | Phase::Second)
     }
 
     fn is_due(self) -> bool
         ensures { result ≡ is_due self.phase }
     {
-        let phase = self.phase;
-        match phase {
-            Phase::Off => false,
-            Phase::Due => true,
-            Phase::First => false,
-            Phase::Pressed => false,
-            Phase::Second => false,
-        }
+        self.phase == Phase::Due
     }
 
     fn is_pressed(self) -> bool
         ensures { result ≡ is_pressed self.phase }
     {
-        let phase = self.phase;
-        match phase {
-            Phase::Off => false,
-            Phase::Due => false,
-            Phase::First => false,
-            Phase::Pressed => true,
-            Phase::Second => false,
-        }
+        self.phase == Phase::Pressed
     }
 
     #[tactic(auto, unfolding(crate::specs::Stop::reminder_missed))]
     pub fn missed(self) -> bool
         ensures { result ≡ reminder_missed self }
     {
-        self.is_lit() & (50 <= self.age)
+        self.is_lit() && 50 <= self.age
     }
 
     // The first reminder's rule, whatever function 2 says.
@@ -213,7 +190,7 @@ impl Reminder {
     pub fn first_met(self, main: Main) -> bool
         ensures { result ≡ first_met main self }
     {
-        self.is_due() & main.is_stop() & (2000000 <= main.distance)
+        self.is_due() && main.is_stop() && 2_000_000 <= main.distance
     }
 
     // The second reminder's rule: X samples (X/2 where the stop is increased) or Y metres since the press.
@@ -221,9 +198,9 @@ impl Reminder {
     fn second_met(self, increased: bool, x: u16, y: u16) -> bool
         ensures { result ≡ second_met increased x y self }
     {
-        let wait = leaf::choose16(increased, x / 2, x);
-        let way = leaf::travel(y, 10000);
-        self.is_pressed() & ((wait <= self.fast) | (way <= self.distance))
+        let wait = if increased { x / 2 } else { x };
+        let way = leaf::travel(y, 10_000);
+        self.is_pressed() && (wait <= self.fast || way <= self.distance)
     }
 
     // The reminder after its step of a sample: missed, lit, or as it was.
@@ -231,19 +208,15 @@ impl Reminder {
     pub fn reminded(self, main: Main, reminds: bool, x: u16, y: u16) -> Reminder
         ensures { result ≡ reminded_of main reminds x y self }
     {
-        let missed = self.missed();
-        let first = self.first_met(main) & reminds;
-        let second = self.second_met(main.increased, x, y);
-        if missed {
-            return Reminder::fresh(Phase::Off);
+        if self.missed() {
+            Reminder::fresh(Phase::Off)
+        } else if reminds && self.first_met(main) {
+            Reminder::fresh(Phase::First)
+        } else if self.second_met(main.increased, x, y) {
+            Reminder::fresh(Phase::Second)
+        } else {
+            self
         }
-        if first {
-            return Reminder::fresh(Phase::First);
-        }
-        if second {
-            return Reminder::fresh(Phase::Second);
-        }
-        self
     }
 
     // Does a press of override now answer it.
@@ -251,20 +224,17 @@ impl Reminder {
     pub fn takes_press(self) -> bool
         ensures { result ≡ takes_press self }
     {
-        self.is_lit() & (1 <= self.age)
+        self.is_lit() && 1 <= self.age
     }
 
     // The reminder after a press: the first is followed by the wait for the second, the second by nothing.
     pub fn pressed(self) -> Reminder
         ensures { result ≡ pressed_of self.phase }
     {
-        let phase = self.phase;
-        match phase {
-            Phase::Off => Reminder::fresh(Phase::Off),
-            Phase::Due => Reminder::fresh(Phase::Due),
-            Phase::First => Reminder::fresh(Phase::Pressed),
-            Phase::Pressed => Reminder::fresh(Phase::Pressed),
-            Phase::Second => Reminder::fresh(Phase::Off),
-        }
+        Reminder::fresh(match self.phase {
+            Phase::First => Phase::Pressed,
+            Phase::Second => Phase::Off,
+            unlit => unlit,
+        })
     }
 }

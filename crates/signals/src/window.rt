@@ -14,7 +14,7 @@ pub const ZONE_MISS: u16 = 40;
 const ZONE_PRESS: u16 = 10;
 
 // Which reading waits. `Zone` is the window of the stop zone, `Limit` that of beacons 10 and 11.
-#[derive(Clone, Copy)]
+#[derive(Clone, Copy, PartialEq, Eq)]
 pub enum Waits {
     Nothing,
     One,
@@ -28,19 +28,14 @@ pub enum Waits {
 }
 
 // `left` is the time to the miss, which a reading inherits from the window that it displaces; `age` and
-// `distance` are those of the reading itself.
+// `distance` are those of the reading itself. `Nothing` and no `Option`: refusal 8 is promised of a session with one of these numbers out of
+// range, also where the window is closed (`desk_inside`).
 #[derive(Clone, Copy)]
 pub struct Window {
     pub waits: Waits,
     pub left: u16,
     pub age: u16,
     pub distance: u32,
-}
-
-fn one_less(n: u16) -> u16
-    ensures { result ≡ n - 1 }
-{
-    if 0 < n { n - 1 } else { 0 }
 }
 
 impl Window {
@@ -60,8 +55,8 @@ impl Window {
         ensures { result ≡ opened waits left }
     {
         Window {
-            waits: waits,
-            left: left,
+            waits,
+            left,
             age: 0,
             distance: 0,
         }
@@ -70,18 +65,7 @@ impl Window {
     pub fn is_open(self) -> bool
         ensures { result ≡ is_open self.waits }
     {
-        let waits = self.waits;
-        match waits {
-            Waits::Nothing => false,
-            Waits::One => true,
-            Waits::Two => true,
-            Waits::Five => true,
-            Waits::Six => true,
-            Waits::Seven => true,
-            Waits::Zone => true,
-            Waits::Nine => true,
-            Waits::Limit => true,
-        }
+        self.waits != Waits::Nothing
     }
 
     // One sample on, with a travel of m.
@@ -89,12 +73,11 @@ impl Window {
     pub fn older(self, m: u32) -> Window
         ensures { result ≡ window_older m self }
     {
-        let waits = self.waits;
         Window {
-            waits: waits,
-            left: one_less(self.left),
+            left: self.left.saturating_sub(1),
             age: leaf::older(self.age),
             distance: leaf::further(self.distance, m),
+            ..self
         }
     }
 
@@ -102,15 +85,14 @@ impl Window {
     pub fn missed(self) -> bool
         ensures { result ≡ missed_of self }
     {
-        self.is_open() & (self.left == 0)
+        self.is_open() && self.left == 0
     }
 
     // The mask of the buttons that answer the window now: its lamps, and the right presses.
     pub fn waits_for(self) -> u16
         ensures { result ≡ waits_for self.waits self.age }
     {
-        let waits = self.waits;
-        match waits {
+        match self.waits {
             Waits::Nothing => 0,
             Waits::One => {
                 button::ANNOUNCEMENT
@@ -123,7 +105,8 @@ impl Window {
             Waits::Five => button::PREANNOUNCEMENT,
             Waits::Six => button::CAUTION,
             Waits::Seven => button::BEFORE_STOP,
-            Waits::Zone => leaf::choose16(ZONE_PRESS <= self.age, button::BEFORE_STOP, 0),
+            Waits::Zone if self.age < ZONE_PRESS => 0,
+            Waits::Zone => button::BEFORE_STOP,
             Waits::Nine => button::CROSSING | button::LIMIT,
             Waits::Limit => button::LIMIT,
         }
@@ -142,24 +125,13 @@ impl Window {
     pub fn time_left(self, fresh: u16) -> u16
         ensures { result ≡ time_left self fresh }
     {
-        leaf::choose16(self.is_open(), self.left, fresh)
+        if self.is_open() { self.left } else { fresh }
     }
 
     // Did the reading leave it to the answer which control is set: beacons 1 and 9.
     pub fn asks(self) -> bool
         ensures { result ≡ asks_of self.waits }
     {
-        let waits = self.waits;
-        match waits {
-            Waits::Nothing => false,
-            Waits::One => true,
-            Waits::Two => false,
-            Waits::Five => false,
-            Waits::Six => false,
-            Waits::Seven => false,
-            Waits::Zone => false,
-            Waits::Nine => true,
-            Waits::Limit => false,
-        }
+        matches!(self.waits, Waits::One | Waits::Nine)
     }
 }
