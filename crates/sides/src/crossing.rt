@@ -3,19 +3,20 @@ ghost use Rattle.std.specs.Prelude.{◌≡◌};
 ghost use Rattle.sides.specs.Crossing.{no_crossing, stands, is_protected, is_unprotected, crossing_older, unprotected_set, protected_set, turns_at, turned_at, crossing_speed, icon_of, no_option, option_now, option_older};
 
 // A crossing ends at 1,800 m.
-const CROSSING_END: u32 = 18000000;
+const CROSSING_END: u32 = 18_000_000;
 
 // The icon of a protected crossing shows 35 m after beacon 4.
-const ICON_DISTANCE: u32 = 350000;
+const ICON_DISTANCE: u32 = 350_000;
 
-#[derive(Clone, Copy)]
+#[derive(Clone, Copy, PartialEq, Eq)]
 pub enum CrossingKind {
     Absent,
     Protected,
     Unprotected,
 }
 
-// `shown` is whether the icon of a protected crossing shows; that of an unprotected one always does.
+// `shown` is whether the icon of a protected crossing shows; that of an unprotected one always does. `Absent` and no
+// `Option`: refusal 8 is promised of a session whose age or distance here is out of range, also where none stands (`desk_inside`).
 #[derive(Clone, Copy)]
 pub struct Crossing {
     pub kind: CrossingKind,
@@ -24,7 +25,8 @@ pub struct Crossing {
     pub shown: bool,
 }
 
-// Beacon 3 may be answered by the crossing's button, with the age and distance of its reading.
+// Beacon 3 may be answered by the crossing's button, with the age and distance of its reading. A flag and no `Option`: refusal 8 is promised
+// of a session where either is out of range, also where the option is off (`desk_inside`).
 #[derive(Clone, Copy)]
 pub struct CrossingOption {
     pub on: bool,
@@ -47,34 +49,19 @@ impl Crossing {
     pub fn is_standing(self) -> bool
         ensures { result ≡ stands self.kind }
     {
-        let kind = self.kind;
-        match kind {
-            CrossingKind::Absent => false,
-            CrossingKind::Protected => true,
-            CrossingKind::Unprotected => true,
-        }
+        self.kind != CrossingKind::Absent
     }
 
     pub fn is_protected(self) -> bool
         ensures { result ≡ is_protected self.kind }
     {
-        let kind = self.kind;
-        match kind {
-            CrossingKind::Absent => false,
-            CrossingKind::Protected => true,
-            CrossingKind::Unprotected => false,
-        }
+        self.kind == CrossingKind::Protected
     }
 
     pub fn is_unprotected(self) -> bool
         ensures { result ≡ is_unprotected self.kind }
     {
-        let kind = self.kind;
-        match kind {
-            CrossingKind::Absent => false,
-            CrossingKind::Protected => false,
-            CrossingKind::Unprotected => true,
-        }
+        self.kind == CrossingKind::Unprotected
     }
 
     // One sample on: over at 1,800 m, and its icon shown at 35 m.
@@ -82,18 +69,15 @@ impl Crossing {
     pub fn older(self, m: u32) -> Crossing
         ensures { result ≡ crossing_older m self }
     {
-        let kind = self.kind;
-        let age = leaf::older(self.age);
         let distance = leaf::further(self.distance, m);
-        let over = CROSSING_END <= distance;
-        if over {
+        if CROSSING_END <= distance {
             return Crossing::none();
         }
         Crossing {
-            kind: kind,
-            age: age,
-            distance: distance,
-            shown: self.shown | (ICON_DISTANCE <= distance),
+            age: leaf::older(self.age),
+            distance,
+            shown: self.shown || ICON_DISTANCE <= distance,
+            ..self
         }
     }
 
@@ -102,12 +86,18 @@ impl Crossing {
     pub fn set_unprotected(self, age: u16, distance: u32) -> Crossing
         ensures { result ≡ unprotected_set age distance self }
     {
-        let again = self.is_unprotected();
-        Crossing {
-            kind: CrossingKind::Unprotected,
-            age: leaf::choose16(again, self.age, age),
-            distance: distance,
-            shown: true,
+        match self.kind {
+            CrossingKind::Unprotected => Crossing {
+                distance,
+                shown: true,
+                ..self
+            },
+            CrossingKind::Absent | CrossingKind::Protected => Crossing {
+                kind: CrossingKind::Unprotected,
+                age,
+                distance,
+                shown: true,
+            },
         }
     }
 
@@ -117,16 +107,19 @@ impl Crossing {
     pub fn set_protected(self, age: u16, distance: u32, shows: bool) -> Crossing
         ensures { result ≡ protected_set age distance shows self }
     {
-        let stays = self.is_unprotected();
-        let again = self.is_protected();
-        if stays {
-            return self;
-        }
-        Crossing {
-            kind: CrossingKind::Protected,
-            age: leaf::choose16(again, self.age, age),
-            distance: distance,
-            shown: shows | (again & self.shown),
+        match self.kind {
+            CrossingKind::Unprotected => self,
+            CrossingKind::Protected => Crossing {
+                distance,
+                shown: shows || self.shown,
+                ..self
+            },
+            CrossingKind::Absent => Crossing {
+                kind: CrossingKind::Protected,
+                age,
+                distance,
+                shown: shows,
+            },
         }
     }
 
@@ -135,23 +128,27 @@ impl Crossing {
     pub fn turned(self, m: u32) -> Crossing
         ensures { result ≡ turned_at m self }
     {
-        let turns = self.is_protected() & leaf::below(m, 4000);
-        if turns {
-            return Crossing {
+        if self.is_protected() && leaf::below(m, 4000) {
+            Crossing {
                 kind: CrossingKind::Unprotected,
                 age: 0,
-                distance: self.distance,
                 shown: true,
-            };
+                ..self
+            }
+        } else {
+            self
         }
-        self
     }
 
     // Hundredths of km/h of a standing crossing: `row` is what row 5 gives at its age, `top` is T.
     pub fn speed(self, row: u32, top: u32) -> u32
         ensures { result ≡ crossing_speed self.kind row top }
     {
-        leaf::choose32(self.is_protected(), leaf::least(top, 15500), row)
+        if self.is_protected() {
+            top.min(15_500)
+        } else {
+            row
+        }
     }
 
     // 0 none, 1 protected, 2 unprotected.
@@ -159,8 +156,11 @@ impl Crossing {
     pub fn icon(self) -> u8
         ensures { result ≡ icon_of self }
     {
-        let protected = leaf::choose8(self.is_protected() & self.shown, 1, 0);
-        leaf::choose8(self.is_unprotected(), 2, protected)
+        match self.kind {
+            CrossingKind::Unprotected => 2,
+            CrossingKind::Protected if self.shown => 1,
+            CrossingKind::Protected | CrossingKind::Absent => 0,
+        }
     }
 }
 
@@ -191,8 +191,8 @@ impl CrossingOption {
     {
         let age = leaf::older(self.age);
         CrossingOption {
-            on: self.on & (age < 30),
-            age: age,
+            on: self.on && age < 30,
+            age,
             distance: leaf::further(self.distance, m),
         }
     }

@@ -5,7 +5,8 @@ ghost use Rattle.sides.specs.Limit.{no_limit, limit_older, limit_set, steps_top,
 // Steps stop here.
 pub const STEPS_TOP: u8 = 8;
 
-// `answered` says that an answered 1 or 9 set it last.
+// `answered` says that an answered 1 or 9 set it last. `on` is a flag, and the limit no `Option`: refusal 8 is promised of a session whose age
+// or steps here are out of range, also where no limit stands (`desk_inside`).
 #[derive(Clone, Copy)]
 pub struct Limit {
     pub on: bool,
@@ -18,33 +19,7 @@ pub struct Limit {
 fn step_top(top: u32) -> u32
     ensures { result ≡ highest top }
 {
-    leaf::least(top, 16000)
-}
-
-// The final value `last` (km/h) with its steps, in hundredths of km/h.
-#[tactic(auto, unfolding(crate::specs::Limit::stepped_final))]
-fn stepped_final(last: u8, steps: u8, top: u32) -> u32
-    ensures { result ≡ stepped_final last steps top }
-{
-    let plain = leaf::hundredths(last);
-    let risen = leaf::least(plain + (steps as u32) * 2000, step_top(top));
-    leaf::choose32(steps == 0, plain, risen)
-}
-
-fn one_more(steps: u8) -> u8
-    ensures { result ≡ min (steps + 1) steps_top }
-{
-    if steps < STEPS_TOP {
-        steps + 1
-    } else {
-        STEPS_TOP
-    }
-}
-
-fn one_less(steps: u8) -> u8
-    ensures { result ≡ steps - 1 }
-{
-    if 0 < steps { steps - 1 } else { 0 }
+    top.min(16_000)
 }
 
 impl Limit {
@@ -59,11 +34,13 @@ impl Limit {
         }
     }
 
-    pub fn older(mut self) -> Limit
+    pub fn older(self) -> Limit
         ensures { result ≡ limit_older self }
     {
-        self.age = leaf::older(self.age);
-        self
+        Limit {
+            age: leaf::older(self.age),
+            ..self
+        }
     }
 
     // The limit is set by a reading of this age, as it is read or by its answer; a repeat keeps the standing limit's.
@@ -73,9 +50,9 @@ impl Limit {
     {
         Limit {
             on: true,
-            age: leaf::choose16(self.on, self.age, age),
+            age: if self.on { self.age } else { age },
             steps: 0,
-            answered: answered,
+            answered,
         }
     }
 
@@ -84,8 +61,11 @@ impl Limit {
     pub fn speed(self, row: u32, last: u8, top: u32) -> u32
         ensures { result ≡ limit_speed row last top self }
     {
-        let falling = leaf::hundredths(last) < row;
-        leaf::choose32(falling, row, stepped_final(last, self.steps, top))
+        if leaf::hundredths(last) < row {
+            row
+        } else {
+            self.final_value(last, top)
+        }
     }
 
     // Does a press of increase, for which stop has no use, add a step; `pairs` says that the card has pairs.
@@ -93,32 +73,41 @@ impl Limit {
     pub fn may_step(self, pairs: bool, row: u32, last: u8, top: u32) -> bool
         ensures { result ≡ may_step pairs row last top self }
     {
-        let at_final = row <= leaf::hundredths(last);
-        (!pairs | self.answered)
-            & self.on
-            & at_final
-            & (stepped_final(last, self.steps, top) < step_top(top))
+        (!pairs || self.answered)
+            && self.on
+            && row <= leaf::hundredths(last)
+            && self.final_value(last, top) < step_top(top)
     }
 
-    pub fn step(mut self) -> Limit
+    pub fn step(self) -> Limit
         ensures { result ≡ stepped self }
     {
-        self.steps = one_more(self.steps);
-        self
+        Limit {
+            steps: self.steps.saturating_add(1).min(STEPS_TOP),
+            ..self
+        }
     }
 
-    pub fn hide(mut self) -> Limit
+    pub fn hide(self) -> Limit
         ensures { result ≡ hidden self }
     {
-        self.steps = one_less(self.steps);
-        self
+        Limit {
+            steps: self.steps.saturating_sub(1),
+            ..self
+        }
     }
 
-    // Its final value with its steps, hundredths of km/h.
+    // Its final value, `last` being the row's (km/h), with its steps, hundredths of km/h.
+    #[tactic(auto, unfolding(crate::specs::Limit::stepped_final))]
     pub fn final_value(self, last: u8, top: u32) -> u32
         ensures { result ≡ stepped_final last self.steps top }
     {
-        stepped_final(last, self.steps, top)
+        let plain = leaf::hundredths(last);
+        if self.steps == 0 {
+            plain
+        } else {
+            (plain + u32::from(self.steps) * 2000).min(step_top(top))
+        }
     }
 
     // May button 6 take it off, at m mm/s.
@@ -126,9 +115,6 @@ impl Limit {
     pub fn is_removable(self, m: u32, last: u8, top: u32) -> bool
         ensures { result ≡ removable m last top self }
     {
-        if self.on {
-            return leaf::below(m, stepped_final(last, self.steps, top));
-        }
-        false
+        self.on && leaf::below(m, self.final_value(last, top))
     }
 }

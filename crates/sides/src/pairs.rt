@@ -1,10 +1,8 @@
 // Limit beacons in pairs (02 g): the first of a pair, and the paired limits, one for each of the speeds 30, 40, 50 and 70 km/h.
 ghost use Rattle.std.specs.Prelude.{◌≡◌};
-ghost use Rattle.leaf.specs.Checks.{or_fault};
-ghost use Rattle.leaf.specs.Choosing.{pick};
-ghost use Rattle.sides.specs.Pairs.{no_first, is_first, is_eleven, first_kind, first_read, first_older, reach_of, is_second, no_paired, paired_now, paired_older, paired_speed, paired_goes, none_of_four, paired_at, four_with, four_older, any_paired, stays_check, lowest_to_go, nothing_paired, all_older};
+ghost use Rattle.sides.specs.Pairs.{no_first, is_first, is_eleven, first_kind, first_read, first_older, is_second, no_paired, paired_now, paired_older, paired_speed, paired_goes, none_of_four, paired_at, four_with, four_older, any_paired, lowest_to_go, nothing_paired, all_older};
 
-#[derive(Clone, Copy)]
+#[derive(Clone, Copy, PartialEq, Eq)]
 pub enum FirstKind {
     Absent,
     Ten,
@@ -12,7 +10,8 @@ pub enum FirstKind {
 }
 
 // The last 10 or 11 read that is in no pair, how far back it is, and whether its limit is its own: no single limit stood before it.
-// The order in memory is that at which a sample costs least (tests/cost).
+// The order in memory is that at which a sample costs least (tests/cost). `Absent` and no `Option`: refusal 8 is promised of a session whose
+// distance here is out of range, also where there is no first (`desk_inside`).
 #[derive(Clone, Copy)]
 pub struct First {
     pub kind: FirstKind,
@@ -20,14 +19,15 @@ pub struct First {
     pub distance: u32,
 }
 
-// A paired limit, aged from the second beacon that last set it.
+// A paired limit, aged from the second beacon that last set it. A flag and no `Option`: refusal 8 is promised of a session whose age here is
+// out of range, also where it does not stand (`desk_inside`).
 #[derive(Clone, Copy)]
 pub struct PairedLimit {
     pub on: bool,
     pub age: u16,
 }
 
-// The paired limits, each by its speed in km/h.
+// The paired limits, each by its speed in km/h. Four fields and no array: a session holds them so, and the definitions name them.
 #[derive(Clone, Copy)]
 pub struct FourLimits {
     pub thirty: PairedLimit,
@@ -71,7 +71,7 @@ impl First {
         First {
             kind: first_kind(code == 11),
             distance: 0,
-            own: own,
+            own,
         }
     }
 
@@ -79,36 +79,28 @@ impl First {
     pub fn is_there(self) -> bool
         ensures { result ≡ is_first self.kind }
     {
-        let kind = self.kind;
-        match kind {
-            FirstKind::Absent => false,
-            FirstKind::Ten => true,
-            FirstKind::Eleven => true,
-        }
+        self.kind != FirstKind::Absent
     }
 
     pub fn is_eleven(self) -> bool
         ensures { result ≡ is_eleven self.kind }
     {
-        let kind = self.kind;
-        match kind {
-            FirstKind::Absent => false,
-            FirstKind::Ten => false,
-            FirstKind::Eleven => true,
-        }
+        self.kind == FirstKind::Eleven
     }
 
     // One sample on, with a travel of m.
     #[tactic(auto, unfolding(crate::specs::Pairs::first_older))]
-    pub fn older(mut self, m: u32) -> First
+    pub fn older(self, m: u32) -> First
         ensures { result ≡ first_older m self }
     {
-        let there = self.is_there();
-        if there {
-            self.distance = leaf::further(self.distance, m);
-            return self;
+        if self.is_there() {
+            First {
+                distance: leaf::further(self.distance, m),
+                ..self
+            }
+        } else {
+            self
         }
-        self
     }
 
     // Is a 10 or 11 that is read now its second: at no more than so many metres from it.
@@ -116,7 +108,7 @@ impl First {
     pub fn has_second(self, metres: u8) -> bool
         ensures { result ≡ is_second metres self }
     {
-        self.is_there() & (self.distance <= (metres as u32) * 10000)
+        self.is_there() && self.distance <= u32::from(metres) * 10_000
     }
 }
 
@@ -124,7 +116,7 @@ impl First {
 pub fn paired_speed(top: u32, speed: u8) -> u32
     ensures { result ≡ paired_speed top speed }
 {
-    leaf::least(top, leaf::hundredths(speed))
+    top.min(leaf::hundredths(speed))
 }
 
 impl PairedLimit {
@@ -146,12 +138,13 @@ impl PairedLimit {
         ensures { result ≡ paired_older self }
     {
         if self.on {
-            return PairedLimit {
-                on: true,
+            PairedLimit {
                 age: leaf::older(self.age),
-            };
+                ..self
+            }
+        } else {
+            self
         }
-        self
     }
 
     // May button 6 take it off, at m mm/s, where it is the one of this speed.
@@ -159,18 +152,14 @@ impl PairedLimit {
     pub fn may_go(self, m: u32, top: u32, speed: u8) -> bool
         ensures { result ≡ paired_goes m top speed self }
     {
-        self.on & leaf::below(m, paired_speed(top, speed))
-    }
-
-    // Another one where the test holds.
-    fn or_other(self, test: bool, other: PairedLimit) -> PairedLimit
-        ensures { result ≡ pick test other self }
-    {
-        if test { other } else { self }
+        self.on && leaf::below(m, paired_speed(top, speed))
     }
 }
 
 impl FourLimits {
+    // Their speeds in km/h, lowest first.
+    pub const SPEEDS: [u8; 4] = [30, 40, 50, 70];
+
     pub fn none() -> FourLimits
         ensures { result ≡ none_of_four }
     {
@@ -196,34 +185,28 @@ impl FourLimits {
 
     // With another in the place of the one of this speed.
     #[tactic(auto, unfolding(crate::specs::Pairs::four_with))]
-    pub fn with(self, speed: u8, limit: PairedLimit) -> FourLimits
+    pub fn with(mut self, speed: u8, limit: PairedLimit) -> FourLimits
         ensures { result ≡ four_with speed limit self }
     {
-        let thirty = self.thirty;
-        let forty = self.forty;
-        let fifty = self.fifty;
-        let seventy = self.seventy;
-        FourLimits {
-            thirty: thirty.or_other(speed == 30, limit),
-            forty: forty.or_other(speed == 40, limit),
-            fifty: fifty.or_other(speed == 50, limit),
-            seventy: seventy.or_other(speed == 70, limit),
+        match speed {
+            30 => self.thirty = limit,
+            40 => self.forty = limit,
+            50 => self.fifty = limit,
+            70 => self.seventy = limit,
+            _ => {}
         }
+        self
     }
 
     #[tactic(auto, unfolding(crate::specs::Pairs::four_older))]
     pub fn older(self) -> FourLimits
         ensures { result ≡ four_older self }
     {
-        let thirty = self.thirty;
-        let forty = self.forty;
-        let fifty = self.fifty;
-        let seventy = self.seventy;
         FourLimits {
-            thirty: thirty.older(),
-            forty: forty.older(),
-            fifty: fifty.older(),
-            seventy: seventy.older(),
+            thirty: self.thirty.older(),
+            forty: self.forty.older(),
+            fifty: self.fifty.older(),
+            seventy: self.seventy.older(),
         }
     }
 
@@ -232,39 +215,22 @@ impl FourLimits {
     pub fn any(self) -> bool
         ensures { result ≡ any_paired self }
     {
-        let thirty = self.thirty;
-        let forty = self.forty;
-        let fifty = self.fifty;
-        let seventy = self.seventy;
-        thirty.on | forty.on | fifty.on | seventy.on
+        self.thirty.on || self.forty.on || self.fifty.on || self.seventy.on
     }
 
-    // What was found before; or this speed, where its limit may go; or 0.
-    fn or_goes(self, found: u8, speed: u8, m: u32, top: u32) -> u8
-        ensures { result ≡ or_fault found (stays_check m top self speed).0 (stays_check m top self speed).1 }
-    {
-        let limit = self.at(speed);
-        leaf::or_fault(found, speed, !limit.may_go(m, top, speed))
-    }
-
-    #[tactic(auto, unfolding(crate::specs::Pairs::lowest_to_go))]
-    fn first_to_go(self, m: u32, top: u32) -> u8
-        ensures { result ≡ lowest_to_go m top self }
-    {
-        let found = self.or_goes(0, 30, m, top);
-        let found = self.or_goes(found, 40, m, top);
-        let found = self.or_goes(found, 50, m, top);
-        self.or_goes(found, 70, m, top)
-    }
-
-    // The speed of the lowest that may go at m mm/s, 0 where none may.
-    #[tactic(auto, using(crate::specs::Laws::none_goes))]
+    // The speed of the lowest that may go at m mm/s, 0 where none may: a number and no `Option`, as the definition of this name, which
+    // those of buttons and lamps cite. Most samples have none of the four, and then one test costs less than four.
+    #[tactic(auto, unfolding(crate::specs::Pairs::lowest_to_go), using(crate::specs::Laws::none_goes, crate::proofs::Lowest::found_here, crate::proofs::Lowest::found_behind))]
     pub fn lowest_to_go(self, m: u32, top: u32) -> u8
         ensures { result ≡ lowest_to_go m top self }
     {
-        let any = self.any();
-        if any {
-            return self.first_to_go(m, top);
+        if !self.any() {
+            return 0;
+        }
+        for speed in FourLimits::SPEEDS {
+            if self.at(speed).may_go(m, top, speed) {
+                return speed;
+            }
         }
         0
     }
@@ -285,15 +251,13 @@ impl Paired {
     pub fn older(self, m: u32) -> Paired
         ensures { result ≡ all_older m self }
     {
-        let first = self.first;
-        let limits = self.limits;
-        let some = first.is_there() | limits.any();
-        if some {
-            return Paired {
-                first: first.older(m),
-                limits: limits.older(),
-            };
+        if self.first.is_there() || self.limits.any() {
+            Paired {
+                first: self.first.older(m),
+                limits: self.limits.older(),
+            }
+        } else {
+            self
         }
-        self
     }
 }
