@@ -9,7 +9,8 @@ use leaf::older;
 pub const STANDING_TIME: u16 = 10;
 
 // `cause` is the one that stands (0: the brake is off), `stood` the number of accepted samples running without pulses, `age` how many
-// samples ago the brake came on (0: in the last one, or it is off).
+// samples ago the brake came on (0: in the last one, or it is off). All are numbers: a session that is handed in may hold any, and one out
+// of range is refused by 8.
 #[derive(Clone, Copy)]
 pub struct Brake {
     pub cause: u8,
@@ -34,7 +35,7 @@ impl Brake {
     fn stood_after(self, pulses: u16) -> u16
         ensures { result ≡ stood_after pulses self.stood }
     {
-        leaf::choose16(pulses == 0, older(self.stood), 0)
+        if pulses == 0 { older(self.stood) } else { 0 }
     }
 
     // Is a sample with these pulses one at standstill.
@@ -42,7 +43,7 @@ impl Brake {
     pub fn at_standstill(self, pulses: u16) -> bool
         ensures { result ≡ standstill pulses self }
     {
-        (pulses == 0) & (STANDING_TIME <= self.stood_after(pulses))
+        pulses == 0 && STANDING_TIME <= self.stood_after(pulses)
     }
 
     // How many samples ago the brake came on, after a sample through which it stays on, or does not.
@@ -50,7 +51,7 @@ impl Brake {
     fn age_after(self, stays: bool) -> u16
         ensures { result ≡ brake_age stays self.age }
     {
-        leaf::choose16(stays, older(self.age), 0)
+        if stays { older(self.age) } else { 0 }
     }
 
     // After a sample with these pulses, after which `cause` stands; `stays` says that the brake was on before it and still is.
@@ -58,7 +59,7 @@ impl Brake {
         ensures { result ≡ brake_after cause stays pulses self }
     {
         Brake {
-            cause: cause,
+            cause,
             stood: self.stood_after(pulses),
             age: self.age_after(stays),
         }

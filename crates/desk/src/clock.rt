@@ -7,19 +7,35 @@ use crate::state::Desk;
 use signals::control::MainKind;
 use signals::window::Window;
 
-// A desk, and the lowest cause that arose on the way to it (0: none).
+// A desk, and the lowest cause that arose on the way to it. The cause is a number, 0 for none: `begun`, `moved_of` and what is proved of
+// them reckon with it.
 #[derive(Clone, Copy)]
 pub struct Turn {
     pub desk: Desk,
     pub cause: u8,
 }
 
+// What a card says of the reminder: whether there is one, and X and Y of the second.
+#[derive(Clone, Copy)]
+pub struct Reminders {
+    pub on: bool,
+    pub x: u16,
+    pub y: u16,
+}
+
 // The lowest of the causes that a miss gives: main window 1, side window 2, reminder 3.
 fn miss_cause(main: bool, side: bool, reminder: bool) -> u8
     ensures { result ≡ miss_cause main side reminder }
 {
-    let third = leaf::choose8(reminder, 3, 0);
-    leaf::choose8(main, 1, leaf::choose8(side, 2, third))
+    if main {
+        1
+    } else if side {
+        2
+    } else if reminder {
+        3
+    } else {
+        0
+    }
 }
 
 // Every age and distance one sample on, with the endings that they bring.
@@ -27,39 +43,30 @@ fn miss_cause(main: bool, side: bool, reminder: bool) -> u8
 fn older(d: Desk, m: u32) -> Desk
     ensures { result ≡ desk_older m d }
 {
-    let brake = d.brake;
-    let main = d.main;
-    let window = d.window;
-    let side = d.side;
-    let armed = d.armed;
-    let reminder = d.reminder;
-    let option = d.option;
-    let beside = d.beside;
     Desk {
-        bts: d.bts,
-        code: d.code,
-        brake: brake,
-        main: main.older(m),
-        window: window.older(m),
-        side: side.older(m),
-        armed: armed.older(),
-        reminder: reminder.older(m),
-        option: option.older(m),
-        beside: beside.older(m),
+        main: d.main.older(m),
+        window: d.window.older(m),
+        side: d.side.older(m),
+        armed: d.armed.older(),
+        reminder: d.reminder.older(m),
+        option: d.option.older(m),
+        beside: d.beside.older(m),
+        ..d
     }
 }
 
 #[tactic(auto, unfolding(crate::specs::Clock::reminded, signals::specs::Stop::reminded_of, signals::specs::Stop::first_met, signals::specs::Stop::second_met, signals::specs::Stop::reminder_missed))]
-fn remind(d: Desk, reminds: bool, x: u16, y: u16) -> Desk
-    ensures { result ≡ reminded reminds x y d }
+fn remind(d: Desk, reminders: Reminders) -> Desk
+    ensures { result ≡ reminded reminders.on reminders.x reminders.y d }
 {
-    let main = d.main;
-    let reminder = d.reminder;
-    let off = reminder.is_off();
-    if off {
+    if d.reminder.is_off() {
         return d;
     }
-    d.with_reminder(reminder.reminded(main, reminds, x, y))
+    let Reminders { on, x, y } = reminders;
+    Desk {
+        reminder: d.reminder.reminded(d.main, on, x, y),
+        ..d
+    }
 }
 
 // A main window that goes unanswered: beacon 1 counts as announcement.
@@ -67,24 +74,21 @@ fn remind(d: Desk, reminds: bool, x: u16, y: u16) -> Desk
 pub fn count_main(d: Desk) -> Desk
     ensures { result ≡ main_counts d }
 {
-    let window = d.window;
-    let asks = window.asks();
-    if asks {
-        d.take_over(MainKind::Announcement, window.age, window.distance)
+    if d.window.asks() {
+        d.take_over(MainKind::Announcement, d.window.age, d.window.distance)
     } else {
         d
     }
 }
 
-// A side window that goes unanswered: beacon 9 counts as unprotected crossing.
+// A side window that goes unanswered: beacon 9 counts as unprotected crossing. Beside the main window's it has another window, another
+// control and another member that is stored; both have no more in common than an `if`, here and in `miss_side`.
 #[tactic(auto, unfolding(crate::specs::Clock::side_counts))]
 pub fn count_side(d: Desk) -> Desk
     ensures { result ≡ side_counts d }
 {
-    let side = d.side;
-    let asks = side.asks();
-    if asks {
-        d.set_unprotected(side.age, side.distance)
+    if d.side.asks() {
+        d.set_unprotected(d.side.age, d.side.distance)
     } else {
         d
     }
@@ -95,7 +99,10 @@ fn miss_main(d: Desk, missed: bool) -> Desk
     ensures { result ≡ main_missed missed d }
 {
     if missed {
-        count_main(d).with_window(Window::closed())
+        Desk {
+            window: Window::closed(),
+            ..count_main(d)
+        }
     } else {
         d
     }
@@ -106,43 +113,41 @@ fn miss_side(d: Desk, missed: bool) -> Desk
     ensures { result ≡ side_missed missed d }
 {
     if missed {
-        count_side(d).with_side(Window::closed())
+        Desk {
+            side: Window::closed(),
+            ..count_side(d)
+        }
     } else {
         d
     }
 }
 
+// Both windows are judged before the reminder is, so that a miss hands down what was found.
 #[tactic(auto, unfolding(crate::specs::Clock::advanced, crate::specs::Clock::main_missed, crate::specs::Clock::reminded, crate::specs::Clock::desk_older, signals::specs::Windows::missed_of, signals::specs::Stop::reminder_missed, crate::specs::Clock::side_missed))]
-fn advance(d: Desk, m: u32, reminds: bool, x: u16, y: u16) -> Turn
-    ensures { result ≡ advanced m reminds x y d }
+fn advance(d: Desk, m: u32, reminders: Reminders) -> Turn
+    ensures { result ≡ advanced m reminders.on reminders.x reminders.y d }
 {
     let d = older(d, m);
-    let window = d.window;
-    let side = d.side;
-    let reminder = d.reminder;
-    let main_missed = window.missed();
-    let side_missed = side.missed();
-    let cause = miss_cause(main_missed, side_missed, reminder.missed());
-    let d = remind(d, reminds, x, y);
-    let none = cause == 0;
-    if none {
-        return Turn { desk: d, cause: 0 };
+    let main = d.window.missed();
+    let side = d.side.missed();
+    let cause = miss_cause(main, side, d.reminder.missed());
+    let d = remind(d, reminders);
+    if cause == 0 {
+        return Turn { desk: d, cause };
     }
-    let d = miss_main(d, main_missed);
     Turn {
-        desk: miss_side(d, side_missed),
-        cause: cause,
+        desk: miss_side(miss_main(d, main), side),
+        cause,
     }
 }
 
 // The first two steps of a sample, in the mode that it carries.
 #[tactic(auto, unfolding(crate::specs::Clock::begun))]
-pub fn begin(d: Desk, bts: bool, m: u32, reminds: bool, x: u16, y: u16) -> Turn
-    ensures { result ≡ begun bts m reminds x y d }
+pub fn begin(d: Desk, bts: bool, m: u32, reminders: Reminders) -> Turn
+    ensures { result ≡ begun bts m reminders.on reminders.x reminders.y d }
 {
-    let same = (d.bts & bts) | (!d.bts & !bts);
-    if same {
-        advance(d, m, reminds, x, y)
+    if d.bts == bts {
+        advance(d, m, reminders)
     } else {
         Turn {
             desk: d.change_mode(bts),

@@ -1,4 +1,5 @@
-// The ranges of a desk: every age and count up to 30,000, every distance up to 60,000,000, steps 0..8, code and cause.
+// The ranges of a desk: every age and count up to 30,000, every distance up to 60,000,000, steps 0..8, code and cause. The parts are other
+// crates' types, which have no methods here: each has a function.
 ghost use Rattle.std.specs.Prelude.{◌≡◌, leb};
 ghost use Rattle.leaf.specs.Numbers.{distance_top};
 ghost use Rattle.desk.specs.Ranges.{brake_inside, main_inside, window_inside, override_inside, reminder_inside, option_inside, alongside_inside, crossing_inside, limit_inside, four_inside, paired_inside, beside_inside, desk_inside};
@@ -17,19 +18,19 @@ use signals::window::Window;
 fn brake_inside(b: Brake) -> bool
     ensures { result ≡ brake_inside b }
 {
-    (b.cause <= CAUSE_TOP) & (b.stood <= AGE_TOP) & (b.age <= AGE_TOP)
+    b.cause <= CAUSE_TOP && b.stood <= AGE_TOP && b.age <= AGE_TOP
 }
 
 fn main_inside(c: Main) -> bool
     ensures { result ≡ main_inside c }
 {
-    (c.age <= AGE_TOP) & (c.distance <= DISTANCE_TOP)
+    c.age <= AGE_TOP && c.distance <= DISTANCE_TOP
 }
 
 fn window_inside(w: Window) -> bool
     ensures { result ≡ window_inside w }
 {
-    (w.left <= AGE_TOP) & (w.age <= AGE_TOP) & (w.distance <= DISTANCE_TOP)
+    w.left <= AGE_TOP && w.age <= AGE_TOP && w.distance <= DISTANCE_TOP
 }
 
 fn override_inside(o: Override) -> bool
@@ -41,13 +42,13 @@ fn override_inside(o: Override) -> bool
 fn reminder_inside(r: Reminder) -> bool
     ensures { result ≡ reminder_inside r }
 {
-    (r.age <= AGE_TOP) & (r.fast <= AGE_TOP) & (r.distance <= DISTANCE_TOP)
+    r.age <= AGE_TOP && r.fast <= AGE_TOP && r.distance <= DISTANCE_TOP
 }
 
 fn option_inside(o: CrossingOption) -> bool
     ensures { result ≡ option_inside o }
 {
-    (o.age <= AGE_TOP) & (o.distance <= DISTANCE_TOP)
+    o.age <= AGE_TOP && o.distance <= DISTANCE_TOP
 }
 
 fn alongside_inside(a: Alongside) -> bool
@@ -59,26 +60,22 @@ fn alongside_inside(a: Alongside) -> bool
 fn crossing_inside(c: Crossing) -> bool
     ensures { result ≡ crossing_inside c }
 {
-    (c.age <= AGE_TOP) & (c.distance <= DISTANCE_TOP)
+    c.age <= AGE_TOP && c.distance <= DISTANCE_TOP
 }
 
 fn limit_inside(l: Limit) -> bool
     ensures { result ≡ limit_inside l }
 {
-    (l.age <= AGE_TOP) & (l.steps <= STEPS_TOP)
+    l.age <= AGE_TOP && l.steps <= STEPS_TOP
 }
 
 fn four_inside(p: FourLimits) -> bool
     ensures { result ≡ four_inside p }
 {
-    let thirty = p.thirty;
-    let forty = p.forty;
-    let fifty = p.fifty;
-    let seventy = p.seventy;
-    (thirty.age <= AGE_TOP)
-        & (forty.age <= AGE_TOP)
-        & (fifty.age <= AGE_TOP)
-        & (seventy.age <= AGE_TOP)
+    p.thirty.age <= AGE_TOP
+        && p.forty.age <= AGE_TOP
+        && p.fifty.age <= AGE_TOP
+        && p.seventy.age <= AGE_TOP
 }
 
 fn first_inside(f: First) -> bool
@@ -90,23 +87,17 @@ fn first_inside(f: First) -> bool
 fn paired_inside(p: Paired) -> bool
     ensures { result ≡ paired_inside p }
 {
-    let first = p.first;
-    let limits = p.limits;
-    first_inside(first) & four_inside(limits)
+    first_inside(p.first) && four_inside(p.limits)
 }
 
 #[tactic(auto, unfolding(crate::specs::Ranges::beside_inside))]
 fn beside_inside(b: Beside) -> bool
     ensures { result ≡ beside_inside b }
 {
-    let alongside = b.alongside;
-    let crossing = b.crossing;
-    let limit = b.limit;
-    let paired = b.paired;
-    alongside_inside(alongside)
-        & crossing_inside(crossing)
-        & limit_inside(limit)
-        & paired_inside(paired)
+    alongside_inside(b.alongside)
+        && crossing_inside(b.crossing)
+        && limit_inside(b.limit)
+        && paired_inside(b.paired)
 }
 
 // Is every number of the desk in its range.
@@ -114,21 +105,13 @@ fn beside_inside(b: Beside) -> bool
 pub fn desk_inside(d: Desk) -> bool
     ensures { result ≡ desk_inside d }
 {
-    let brake = d.brake;
-    let main = d.main;
-    let window = d.window;
-    let side = d.side;
-    let armed = d.armed;
-    let reminder = d.reminder;
-    let option = d.option;
-    let beside = d.beside;
-    (d.code <= CODE_TOP)
-        & brake_inside(brake)
-        & main_inside(main)
-        & window_inside(window)
-        & window_inside(side)
-        & override_inside(armed)
-        & reminder_inside(reminder)
-        & option_inside(option)
-        & beside_inside(beside)
+    d.code <= CODE_TOP
+        && brake_inside(d.brake)
+        && main_inside(d.main)
+        && window_inside(d.window)
+        && window_inside(d.side)
+        && override_inside(d.armed)
+        && reminder_inside(d.reminder)
+        && option_inside(d.option)
+        && beside_inside(d.beside)
 }
