@@ -1,10 +1,12 @@
 // The fourth step of a sample: the beacon.
 #![tactic(auto)]
 
-ghost use Rattle.std.specs.Prelude.{◌≡◌};
-ghost use Rattle.beacons.specs.Beacons.{is_beacon, is_side, reads_of, main_opened, side_opened, reading1, reading_row, option_offered, reading3, reading4, reading7, reminded_after, stopped, reading8, reading9, reading_single, speed_of_pair, first_kept, reading_first, drops_single, single_dropped, pair_set, reading_second, reading_paired, reading_limit, reading_of, read_if, beacon_taken};
+ghost use Rattle.std.specs.Prelude.{◌≡◌, true, false, IfSome, IfNone};
+ghost use Rattle.card.specs.declared.Pairs.{Pairs};
+ghost use Rattle.signals.specs.Windows.{miss_time, opened, time_left};
+ghost use Rattle.beacons.specs.Beacons.{is_beacon, is_side, reads_of, main_opened, side_opened, reading1, reading_row, reading3, reading4, reading7, reminded_after, stopped, reading8, reading9, reading_single, speed_of_pair, first_kept, reading_first, single_dropped, pair_set, reading_second, reading_paired, reading_limit, reading_of, beacon_taken};
 
-use card::Pairs;
+use card::{Functions, Pairs};
 use desk::clock::{Turn, count_main, count_side};
 use desk::state::Desk;
 use sides::crossing::CrossingOption;
@@ -21,14 +23,14 @@ const BEACON_TOP: u8 = 11;
 fn is_beacon(code: u8) -> bool
     ensures { result ≡ is_beacon code }
 {
-    (1 <= code) & (code <= BEACON_TOP)
+    (1..=BEACON_TOP).contains(&code)
 }
 
 // Is it a beacon that BTS reads where the card has that function.
 fn is_side(code: u8) -> bool
     ensures { result ≡ is_side code }
 {
-    (code == 4) | (code == 9) | (code == 10) | (code == 11)
+    matches!(code, 4 | 9 | 10 | 11)
 }
 
 // The reminder of a stop: due where the beacon 8 was passed under override.
@@ -47,26 +49,34 @@ fn reminder_after(armed: bool) -> Reminder
 fn reads(d: Desk, code: u8, reads_in_bts: bool) -> bool
     ensures { result ≡ reads_of code reads_in_bts d.bts d.code }
 {
-    let beacon = is_beacon(code);
-    let side = is_side(code);
-    beacon & !(code == d.code) & (!d.bts | (side & reads_in_bts))
+    is_beacon(code) && code != d.code && (!d.bts || is_side(code) && reads_in_bts)
 }
 
-// A main window for this reading, in the place of the one that is open.
+// The window of a reading that comes now, in the place of one that may be open.
+fn displacing(window: Window, waits: Waits) -> Window
+    ensures { result ≡ opened waits (time_left window miss_time) }
+{
+    Window::opened(waits, window.time_left(MISS_TIME))
+}
+
 #[tactic(auto, unfolding(crate::specs::Beacons::main_opened))]
 fn open_main(d: Desk, waits: Waits) -> Desk
     ensures { result ≡ main_opened waits d }
 {
-    let window = d.window;
-    d.with_window(Window::opened(waits, window.time_left(MISS_TIME)))
+    Desk {
+        window: displacing(d.window, waits),
+        ..d
+    }
 }
 
 #[tactic(auto, unfolding(crate::specs::Beacons::side_opened))]
 fn open_side(d: Desk, waits: Waits) -> Desk
     ensures { result ≡ side_opened waits d }
 {
-    let side = d.side;
-    d.with_side(Window::opened(waits, side.time_left(MISS_TIME)))
+    Desk {
+        side: displacing(d.side, waits),
+        ..d
+    }
 }
 
 #[tactic(auto, unfolding(crate::specs::Beacons::reading1))]
@@ -84,37 +94,26 @@ fn read_row(d: Desk, kind: MainKind, waits: Waits) -> Desk
     open_main(count_main(d).take_over(kind, 0, 0), waits)
 }
 
-#[tactic(auto, unfolding(crate::specs::Beacons::option_offered))]
-fn offer_option(d: Desk, protects: bool) -> Desk
-    ensures { result ≡ option_offered protects d }
-{
-    if protects {
-        d.with_option(CrossingOption::opened())
-    } else {
-        d
-    }
-}
-
-#[tactic(auto, unfolding(crate::specs::Beacons::reading3))]
+#[tactic(auto, unfolding(crate::specs::Beacons::reading3, crate::specs::Beacons::option_offered))]
 fn read_3(d: Desk, protects: bool) -> Desk
     ensures { result ≡ reading3 protects d }
 {
-    let d = count_main(d)
-        .take_over(MainKind::Clear, 0, 0)
-        .with_window(Window::closed());
-    offer_option(d, protects)
+    let mut d = count_main(d).take_over(MainKind::Clear, 0, 0);
+    d.window = Window::closed();
+    if protects {
+        d.option = CrossingOption::opened();
+    }
+    d
 }
 
 #[tactic(auto, unfolding(crate::specs::Beacons::reading4))]
-fn read_4(d: Desk, protects: bool) -> Desk
+fn read_4(mut d: Desk, protects: bool) -> Desk
     ensures { result ≡ reading4 protects d }
 {
-    let crossing = d.beside.crossing;
     if protects {
-        d.with_crossing(crossing.set_protected(0, 0, false))
-    } else {
-        d
+        d.beside.crossing = d.beside.crossing.set_protected(0, 0, false);
     }
+    d
 }
 
 #[tactic(auto, unfolding(crate::specs::Beacons::reading7, crate::specs::Beacons::zone_met))]
@@ -122,11 +121,11 @@ fn read_7(d: Desk, zones: bool) -> Desk
     ensures { result ≡ reading7 zones d }
 {
     let d = count_main(d);
-    let main = d.main;
-    let zone = main.near() & zones;
-    if zone {
-        d.take_over(MainKind::Zone, 0, 0)
-            .with_window(Window::opened(Waits::Zone, ZONE_MISS))
+    if zones && d.main.near() {
+        Desk {
+            window: Window::opened(Waits::Zone, ZONE_MISS),
+            ..d.take_over(MainKind::Zone, 0, 0)
+        }
     } else {
         open_main(d.take_over(MainKind::BeforeStop, 0, 0), Waits::Seven)
     }
@@ -134,15 +133,15 @@ fn read_7(d: Desk, zones: bool) -> Desk
 
 // Stop is set: it uses up the override and ends the stop alongside.
 #[tactic(auto, unfolding(crate::specs::Beacons::stopped))]
-fn stop(d: Desk) -> Desk
+fn stop(mut d: Desk) -> Desk
     ensures { result ≡ stopped d }
 {
-    let armed = d.armed;
-    d.with_reminder(reminder_after(armed.armed))
-        .with_main(Main::new(MainKind::Stop, 0, 0))
-        .with_alongside(Alongside::none())
-        .with_armed(Override::disarmed())
-        .with_window(Window::closed())
+    d.reminder = reminder_after(d.armed.armed);
+    d.main = Main::new(MainKind::Stop, 0, 0);
+    d.beside.alongside = Alongside::none();
+    d.armed = Override::disarmed();
+    d.window = Window::closed();
+    d
 }
 
 #[tactic(auto, unfolding(crate::specs::Beacons::reading8))]
@@ -174,22 +173,21 @@ fn read_single(d: Desk) -> Desk
 fn speed_of_pair(pairs: Pairs, first: First, code: u8) -> u8
     ensures { result ≡ speed_of_pair pairs first code }
 {
-    let eleven = code == 11;
-    let after_ten = leaf::choose8(eleven, pairs.ten_eleven, pairs.ten_ten);
-    let after_eleven = leaf::choose8(eleven, pairs.eleven_eleven, pairs.eleven_ten);
-    leaf::choose8(first.is_eleven(), after_eleven, after_ten)
+    match (first.is_eleven(), code == 11) {
+        (false, false) => pairs.ten_ten,
+        (false, true) => pairs.ten_eleven,
+        (true, false) => pairs.eleven_ten,
+        (true, true) => pairs.eleven_eleven,
+    }
 }
 
 // It is remembered as the first.
 #[tactic(auto, unfolding(crate::specs::Beacons::first_kept))]
-fn keep_first(d: Desk, code: u8, own: bool) -> Desk
+fn keep_first(mut d: Desk, code: u8, own: bool) -> Desk
     ensures { result ≡ first_kept code own d }
 {
-    let limits = d.beside.paired.limits;
-    d.with_paired(Paired {
-        first: First::read(code, own),
-        limits: limits,
-    })
+    d.beside.paired.first = First::read(code, own);
+    d
 }
 
 // The first of a pair, or one that stays alone.
@@ -197,20 +195,18 @@ fn keep_first(d: Desk, code: u8, own: bool) -> Desk
 fn read_first(d: Desk, code: u8) -> Desk
     ensures { result ≡ reading_first code d }
 {
-    let limit = d.beside.limit;
+    let own = !d.beside.limit.on;
     let d = count_side(d).set_limit(0, false);
-    open_side(keep_first(d, code, !limit.on), Waits::Limit)
+    open_side(keep_first(d, code, own), Waits::Limit)
 }
 
 // The first's limit is dropped: its own, and nothing else has set it since.
 #[tactic(auto, unfolding(crate::specs::Beacons::single_dropped))]
-fn drop_single(d: Desk) -> Desk
+fn drop_single(mut d: Desk) -> Desk
     ensures { result ≡ single_dropped d }
 {
-    let limit = d.beside.limit;
-    let drops = d.beside.paired.first.own & !limit.answered;
-    if drops {
-        return d.with_limit(Limit::none());
+    if d.beside.paired.first.own && !d.beside.limit.answered {
+        d.beside.limit = Limit::none();
     }
     d
 }
@@ -220,12 +216,13 @@ fn drop_single(d: Desk) -> Desk
 fn set_pair(d: Desk, speed: u8) -> Desk
     ensures { result ≡ pair_set speed d }
 {
-    let limits = d.beside.paired.limits;
-    let paired = Paired {
+    let limits = d.beside.paired.limits.with(speed, PairedLimit::set_now());
+    let mut d = drop_single(d);
+    d.beside.paired = Paired {
         first: First::none(),
-        limits: limits.with(speed, PairedLimit::set_now()),
+        limits,
     };
-    drop_single(d).with_paired(paired)
+    d
 }
 
 #[tactic(auto, unfolding(crate::specs::Beacons::reading_second))]
@@ -239,93 +236,62 @@ fn read_second(d: Desk, speed: u8) -> Desk
 fn read_paired(d: Desk, code: u8, pairs: Pairs) -> Desk
     ensures { result ≡ reading_paired code pairs d }
 {
-    let beside = d.beside;
-    let paired = beside.paired;
-    let first = paired.first;
-    let second = first.has_second(pairs.distance);
-    if second {
-        return read_second(d, speed_of_pair(pairs, first, code));
+    let first = d.beside.paired.first;
+    if first.has_second(pairs.distance) {
+        read_second(d, speed_of_pair(pairs, first, code))
+    } else {
+        read_first(d, code)
     }
-    read_first(d, code)
 }
 
-// Beacons 10 and 11; `paired` says that the card has pairs.
+// Beacons 10 and 11; there are pairs where the card has them.
 #[tactic(auto, unfolding(crate::specs::Beacons::reading_limit))]
-fn read_limit(d: Desk, code: u8, paired: bool, pairs: Pairs) -> Desk
-    ensures { result ≡ reading_limit code paired pairs d }
+fn read_limit(d: Desk, code: u8, pairs: Option<Pairs>) -> Desk
+    ensures paired { IfSome pairs (λ p. result ≡ reading_limit code true p d) }
+    ensures single { IfNone pairs ((p : Pairs) → result ≡ reading_limit code false p d) }
 {
-    if paired {
-        return read_paired(d, code, pairs);
+    match pairs {
+        Some(pairs) => read_paired(d, code, pairs),
+        None => read_single(d),
     }
-    read_single(d)
 }
 
 // ---- the step
 
 #[tactic(auto, unfolding(crate::specs::Beacons::reading_of))]
-fn read(d: Desk, code: u8, protects: bool, zones: bool, paired: bool, pairs: Pairs) -> Desk
-    ensures { result ≡ reading_of code protects zones paired pairs d }
+fn read(d: Desk, code: u8, functions: Functions, pairs: Option<Pairs>) -> Desk
+    ensures paired { IfSome pairs (λ p. result ≡ reading_of code functions.protects functions.zones true p d) }
+    ensures single { IfNone pairs ((p : Pairs) → result ≡ reading_of code functions.protects functions.zones false p d) }
 {
     match code {
         1 => read_1(d),
         2 => read_row(d, MainKind::ConditionalClear, Waits::Two),
-        3 => read_3(d, protects),
-        4 => read_4(d, protects),
+        3 => read_3(d, functions.protects),
+        4 => read_4(d, functions.protects),
         5 => read_row(d, MainKind::Preannouncement, Waits::Five),
         6 => read_row(d, MainKind::Caution, Waits::Six),
-        7 => read_7(d, zones),
+        7 => read_7(d, functions.zones),
         8 => read_8(d),
         9 => read_9(d),
-        _ => read_limit(d, code, paired, pairs),
+        _ => read_limit(d, code, pairs),
     }
 }
 
-#[tactic(auto, unfolding(crate::specs::Beacons::read_if))]
-fn read_if(
-    d: Desk,
-    acts: bool,
-    code: u8,
-    protects: bool,
-    zones: bool,
-    paired: bool,
-    pairs: Pairs,
-) -> Desk
-    ensures { result ≡ read_if acts code protects zones paired pairs d }
+// The beacon's step, with the card's functions, and the speeds and distance of its pairs of limit beacons where it has pairs.
+#[tactic(auto, unfolding(crate::specs::Beacons::beacon_taken, crate::specs::Beacons::read_if))]
+pub fn take_beacon(d: Desk, code: u8, functions: Functions, pairs: Option<Pairs>) -> Turn
+    ensures paired { IfSome pairs (λ p. result ≡ beacon_taken code functions.protects functions.zones functions.reads_in_bts true p d) }
+    ensures single { IfNone pairs ((p : Pairs) → result ≡ beacon_taken code functions.protects functions.zones functions.reads_in_bts false p d) }
 {
-    if acts {
-        read(d, code, protects, zones, paired, pairs)
-    } else {
-        d
+    let kept = Desk { code, ..d };
+    if !reads(d, code, functions.reads_in_bts) {
+        return Turn {
+            desk: kept,
+            cause: 0,
+        };
     }
-}
-
-// The beacon's step, with three of the card's functions: protected crossing, stop zone, BTS reads beacons; whether it has pairs of limit beacons,
-// and their speeds and distance.
-#[tactic(auto, unfolding(crate::specs::Beacons::beacon_taken))]
-pub fn take_beacon(
-    d: Desk,
-    code: u8,
-    protects: bool,
-    zones: bool,
-    reads_in_bts: bool,
-    paired: bool,
-    pairs: Pairs,
-) -> Turn
-    ensures { result ≡ beacon_taken code protects zones reads_in_bts paired pairs d }
-{
-    let armed = d.armed;
-    let is_read = reads(d, code, reads_in_bts);
-    let danger = is_read & (code == 8) & !armed.armed;
     Turn {
-        desk: read_if(
-            d.with_code(code),
-            is_read,
-            code,
-            protects,
-            zones,
-            paired,
-            pairs,
-        ),
-        cause: leaf::choose8(danger, 4, 0),
+        desk: read(kept, code, functions, pairs),
+        cause: if code == 8 && !d.armed.armed { 4 } else { 0 },
     }
 }
