@@ -112,22 +112,16 @@ fn with_no_seventy(mut session: Session, age: u16) -> Session {
 }
 
 // With a 10 so far back as the first of a pair, before which no limit stood.
-fn with_first(session: Session, distance: u32) -> Session {
-    let card = session.card;
-    let desk = session.desk;
-    let paired = Paired {
+fn with_first(mut session: Session, distance: u32) -> Session {
+    session.desk.beside.paired = Paired {
         first: First {
             kind: FirstKind::Ten,
-            distance: distance,
+            distance,
             own: true,
         },
         limits: FourLimits::none(),
     };
-    Session {
-        card: card,
-        train: session.train,
-        desk: desk.with_paired(paired),
-    }
+    session
 }
 
 // Versions 0 and 4 are none; version 1 has no functions, version 3 has pairs, and version 2 has none. 8 comes before 9. Put back, all is as

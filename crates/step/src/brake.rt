@@ -8,12 +8,16 @@ use leaf::{QUIET_CODE, button};
 // The alarm of a quiet pickup, a lamp without a button.
 const ALARM_LAMP: u16 = 2048;
 
-// The lower of two causes, 0 being none.
+// The lower of two causes, 0 being none. A cause is a number: a session that is handed in may hold any, and one out of range is refused by 8.
 #[tactic(auto, unfolding(crate::specs::Brake::lowest))]
 pub fn lowest(a: u8, b: u8) -> u8
     ensures { result ≡ lowest a b }
 {
-    leaf::choose8(a == 0, b, leaf::choose8(b == 0, a, leaf::least8(a, b)))
+    match (a, b) {
+        (0, _) => b,
+        (_, 0) => a,
+        _ => a.min(b),
+    }
 }
 
 // The cause that stands after a sample in which `arose` is the lowest that arose (0: none).
@@ -21,15 +25,17 @@ pub fn lowest(a: u8, b: u8) -> u8
 fn standing_cause(before: u8, arose: u8, rearm: bool) -> u8
     ensures { result ≡ standing_cause before arose rearm }
 {
-    let kept = leaf::choose8(rearm, 0, before);
-    let first = leaf::choose8(before == 0, arose, before);
-    leaf::choose8(arose == 0, kept, first)
+    match (before, arose) {
+        (0, _) => arose,
+        (_, 0) if rearm => 0,
+        _ => before,
+    }
 }
 
 fn lamp_if(lit: bool, weight: u16) -> u16
     ensures { result ≡ lamp_if lit weight }
 {
-    leaf::choose16(lit, weight, 0)
+    if lit { weight } else { 0 }
 }
 
 // The brake's step: rearm says that a sample at standstill carries it.
@@ -37,10 +43,12 @@ fn lamp_if(lit: bool, weight: u16) -> u16
 pub fn put_brake(d: Desk, arose: u8, rearm: bool, pulses: u16) -> Desk
     ensures { result ≡ braked arose rearm pulses d }
 {
-    let brake = d.brake;
-    let cause = standing_cause(brake.cause, arose, rearm);
-    let stays = !(brake.cause == 0) & !(cause == 0);
-    d.with_brake(brake.after(cause, stays, pulses))
+    let cause = standing_cause(d.brake.cause, arose, rearm);
+    let stays = d.brake.cause != 0 && cause != 0;
+    Desk {
+        brake: d.brake.after(cause, stays, pulses),
+        ..d
+    }
 }
 
 // What the windows and beacon 3's option wait for.
@@ -48,13 +56,7 @@ pub fn put_brake(d: Desk, arose: u8, rearm: bool, pulses: u16) -> Desk
 fn window_lamps(d: Desk) -> u16
     ensures { result ≡ window_lamps d }
 {
-    let window = d.window;
-    let side = d.side;
-    let option = d.option;
-    leaf::either(
-        window.waits_for(),
-        leaf::either(side.waits_for(), lamp_if(option.on, button::CROSSING)),
-    )
+    d.window.waits_for() | (d.side.waits_for() | lamp_if(d.option.on, button::CROSSING))
 }
 
 // Override armed or reminded, increase for stop, and rearm.
@@ -62,18 +64,9 @@ fn window_lamps(d: Desk) -> u16
 fn control_lamps(d: Desk, still: bool) -> u16
     ensures { result ≡ control_lamps still d }
 {
-    let main = d.main;
-    let armed = d.armed;
-    let reminder = d.reminder;
-    let reminded = reminder.is_lit();
-    let stop = main.increase_lit();
-    leaf::either(
-        lamp_if(armed.armed | reminded, button::OVERRIDE),
-        leaf::either(
-            lamp_if(stop, button::INCREASE),
-            lamp_if(still & !(d.brake.cause == 0), button::REARM),
-        ),
-    )
+    lamp_if(d.armed.armed || d.reminder.is_lit(), button::OVERRIDE)
+        | (lamp_if(d.main.increase_lit(), button::INCREASE)
+            | lamp_if(still && d.brake.cause != 0, button::REARM))
 }
 
 // The lamps of the buttons; `removable` says that the limit may go.
@@ -81,10 +74,7 @@ fn control_lamps(d: Desk, still: bool) -> u16
 fn button_lamps(d: Desk, removable: bool, still: bool) -> u16
     ensures { result ≡ button_lamps removable still d }
 {
-    leaf::either(
-        window_lamps(d),
-        leaf::either(lamp_if(removable, button::LIMIT), control_lamps(d, still)),
-    )
+    window_lamps(d) | (lamp_if(removable, button::LIMIT) | control_lamps(d, still))
 }
 
 // All lamps: the alarm of a quiet pickup beside those of the buttons.
@@ -92,8 +82,5 @@ fn button_lamps(d: Desk, removable: bool, still: bool) -> u16
 pub fn lamps_of(d: Desk, removable: bool, still: bool) -> u16
     ensures { result ≡ lamps_of removable still d }
 {
-    leaf::either(
-        lamp_if(d.code == QUIET_CODE, ALARM_LAMP),
-        button_lamps(d, removable, still),
-    )
+    lamp_if(d.code == QUIET_CODE, ALARM_LAMP) | button_lamps(d, removable, still)
 }

@@ -10,9 +10,9 @@ ghost use Rattle.step.specs.Step.{moved_of, limit_goes, answer_of, arose_of, jud
 
 use beacons::take_beacon;
 use brake::{lamps_of, lowest, put_brake};
-use buttons::take_buttons;
+use buttons::{Bounds, take_buttons};
 use card::{Card, Settings};
-use desk::clock::{Turn, begin};
+use desk::clock::{Reminders, Turn, begin};
 use desk::state::Desk;
 use leaf::{QUIET_CODE, button, has_bit};
 use speed::{Standing, reason_at, too_fast, turn_crossing};
@@ -27,7 +27,8 @@ pub struct Input {
     pub bts: bool,
 }
 
-// S, lamps, standing cause (0 none), crossing icon (0, 1 protected, 2 unprotected), limit standing or not.
+// S, lamps, standing cause (0 none), crossing icon (0, 1 protected, 2 unprotected), limit standing or not: the numbers of document 01's answer,
+// as the ride prints them.
 #[derive(Clone, Copy)]
 pub struct Answer {
     pub speed: u32,
@@ -37,7 +38,8 @@ pub struct Answer {
     pub limit: bool,
 }
 
-// The next desk, the lowest cause that arose in the sample (0 none), the answer, and the limit that sets its S.
+// The next desk, the lowest cause that arose in the sample, the answer, and the limit that sets its S. What arose is a number, 0 for none:
+// `judged_of` and what is proved of every sample reckon with it.
 #[derive(Clone, Copy)]
 pub struct Stepped {
     pub desk: Desk,
@@ -54,32 +56,34 @@ const PAIRS_VERSION: u8 = 3;
 fn moved(d: Desk, card: Card, top: u32, x: Input) -> Turn
     ensures { result ≡ moved_of card top x d }
 {
-    let code = x.beacon;
-    let settings = card.settings;
-    let has_pairs = card.version == PAIRS_VERSION;
+    let Card { version, settings } = card;
     let functions = card::functions_of(settings.functions);
-    let row = settings.limit;
-    let pairs = settings.pairs;
-    let begun = begin(d, x.bts, x.m, functions.reminds, settings.x, settings.y);
-    let aged = begun.desk;
+    let reminders = Reminders {
+        on: functions.reminds,
+        x: settings.x,
+        y: settings.y,
+    };
+    let begun = begin(d, x.bts, x.m, reminders);
     // no press, and the code of the sample before: there is nothing to take
-    let idle = (x.buttons == 0) & (code == aged.code);
-    if idle {
+    if x.buttons == 0 && x.beacon == begun.desk.code {
         return begun;
     }
-    let pressed = take_buttons(aged, x.buttons, x.m, has_pairs, row, top);
-    let read = take_beacon(
-        pressed,
-        code,
-        functions.protects,
-        functions.zones,
-        functions.reads_in_bts,
-        has_pairs,
-        pairs,
-    );
-    let after = read.desk;
+    let has_pairs = version == PAIRS_VERSION;
+    let bounds = Bounds {
+        m: x.m,
+        pairs: has_pairs,
+        row: settings.limit,
+        top,
+    };
+    let pressed = take_buttons(begun.desk, x.buttons, bounds);
+    let pairs = if has_pairs {
+        Some(settings.pairs)
+    } else {
+        None
+    };
+    let read = take_beacon(pressed, x.beacon, functions, pairs);
     Turn {
-        desk: after,
+        desk: read.desk,
         cause: lowest(begun.cause, read.cause),
     }
 }
@@ -89,41 +93,35 @@ fn moved(d: Desk, card: Card, top: u32, x: Input) -> Turn
 fn limit_goes(d: Desk, m: u32, last: u8, top: u32) -> bool
     ensures { result ≡ limit_goes m last top d }
 {
-    let limit = d.beside.limit;
-    let limits = d.beside.paired.limits;
-    limit.is_removable(m, last, top) | !(limits.lowest_to_go(m, top) == 0)
+    d.beside.limit.is_removable(m, last, top) || d.beside.paired.limits.lowest_to_go(m, top) != 0
 }
 
 #[tactic(auto, unfolding(crate::specs::Step::answer_of))]
 fn answer_at(d: Desk, settings: Settings, top: u32, m: u32, still: bool, speed: u32) -> Answer
     ensures { result ≡ answer_of settings top m still speed d }
 {
-    let crossing = d.beside.crossing;
-    let limit = d.beside.limit;
-    let limits = d.beside.paired.limits;
-    let row = settings.limit;
-    let goes = limit_goes(d, m, row.last, top);
+    let goes = limit_goes(d, m, settings.limit.last, top);
     Answer {
-        speed: speed,
+        speed,
         lamps: lamps_of(d, goes, still),
         cause: d.brake.cause,
-        icon: crossing.icon(),
-        limit: limit.on | limits.any(),
+        icon: d.beside.crossing.icon(),
+        limit: d.beside.limit.on || d.beside.paired.limits.any(),
     }
 }
 
 // The lowest cause of a sample: of those that arose in the steps before it, too fast, and a quiet pickup outside BTS.
 #[tactic(auto, unfolding(crate::specs::Step::arose_of, crate::specs::Brake::lowest))]
-fn arose_at(cause: u8, m: u32, speed: u32, code: u8, bts: bool) -> u8
-    ensures { result ≡ arose_of cause m speed code bts }
+fn arose_at(x: Input, cause: u8, speed: u32) -> u8
+    ensures { result ≡ arose_of cause x.m speed x.beacon x.bts }
 {
-    let fast = leaf::choose8(too_fast(m, speed), 5, 0);
+    let fast = if too_fast(x.m, speed) { 5 } else { 0 };
     let before = lowest(cause, fast);
-    let quiet = (code == QUIET_CODE) & !bts;
-    if quiet {
-        return lowest(before, 6);
+    if x.beacon == QUIET_CODE && !x.bts {
+        lowest(before, 6)
+    } else {
+        before
     }
-    before
 }
 
 // Speed and brake, over what the steps before made.
@@ -133,17 +131,15 @@ fn judged(d: Desk, settings: Settings, top: u32, x: Input, cause: u8) -> Stepped
 {
     let turned = turn_crossing(d, x.m);
     let named = reason_at(turned, settings, top);
-    let speed = named.speed;
-    let arose = arose_at(cause, x.m, speed, x.beacon, x.bts);
-    let brake = turned.brake;
-    let still = brake.at_standstill(x.pulses);
-    let rearm = still & has_bit(x.buttons, button::REARM);
-    let braked = put_brake(turned, arose, rearm, x.pulses);
+    let arose = arose_at(x, cause, named.speed);
+    let still = turned.brake.at_standstill(x.pulses);
+    let rearm = still && has_bit(x.buttons, button::REARM);
+    let desk = put_brake(turned, arose, rearm, x.pulses);
     Stepped {
-        desk: braked,
-        arose: arose,
-        answer: answer_at(braked, settings, top, x.m, still, speed),
-        named: named,
+        desk,
+        arose,
+        answer: answer_at(desk, settings, top, x.m, still, named.speed),
+        named,
     }
 }
 
@@ -152,8 +148,6 @@ fn judged(d: Desk, settings: Settings, top: u32, x: Input, cause: u8) -> Stepped
 pub fn step(d: Desk, card: Card, top: u32, x: Input) -> Stepped
     ensures { result ≡ step_of card top x d }
 {
-    let settings = card.settings;
     let turn = moved(d, card, top, x);
-    let after = turn.desk;
-    judged(after, settings, top, x, turn.cause)
+    judged(turn.desk, card.settings, top, x, turn.cause)
 }

@@ -30,7 +30,7 @@ pub enum Reason {
     Paired,
 }
 
-// The number of a reason, 1..7, 0 for none. A paired limit counts as limit.
+// The number of a reason, as the ride prints it: 1..7, 0 for none. A paired limit counts as limit, so that it is no cast of the enum.
 pub fn reason_number(reason: Reason) -> u8
     ensures { result ≡ reason_number reason }
 {
@@ -42,13 +42,13 @@ pub fn reason_number(reason: Reason) -> u8
         Reason::Main => 4,
         Reason::Alongside => 5,
         Reason::Crossing => 6,
-        Reason::Limit => 7,
-        Reason::Paired => 7,
+        Reason::Limit | Reason::Paired => 7,
     }
 }
 
-// A limit: does it stand, hundredths of km/h, which one it is, and its age. One that does not stand is none, with 0 for both numbers. The
-// order in memory is that at which a sample costs least (tests/cost).
+// A limit: does it stand, hundredths of km/h, which one it is, and its age. One that does not stand is none, with 0 for both numbers: no
+// Option, since `lower`, `least_of` and `limits` of specs/, and what is proved of them, speak of limits that do not stand. The order in
+// memory is that at which a sample costs least (tests/cost).
 #[derive(Clone, Copy)]
 pub struct Standing {
     pub stands: bool,
@@ -74,10 +74,10 @@ impl Standing {
         ensures { result ≡ standing reason true speed age }
     {
         Standing {
-            reason: reason,
+            reason,
             stands: true,
-            speed: speed,
-            age: age,
+            speed,
+            age,
         }
     }
 
@@ -86,18 +86,21 @@ impl Standing {
     fn or_lower(self, next: Standing) -> Standing
         ensures { result ≡ lower self next }
     {
-        let lower = next.stands & (!self.stands | (next.speed < self.speed));
-        if lower { next } else { self }
+        if next.stands && (!self.stands || next.speed < self.speed) {
+            next
+        } else {
+            self
+        }
     }
 }
 
 // The protected crossing turns in the speed step.
 #[tactic(auto, unfolding(crate::specs::Speed::crossing_turned))]
-pub fn turn_crossing(d: Desk, m: u32) -> Desk
+pub fn turn_crossing(mut d: Desk, m: u32) -> Desk
     ensures { result ≡ crossing_turned m d }
 {
-    let crossing = d.beside.crossing;
-    d.with_crossing(crossing.turned(m))
+    d.beside.crossing = d.beside.crossing.turned(m);
+    d
 }
 
 // Hundredths of km/h that the main control allows. Clear allows T: it is no limit.
@@ -105,33 +108,14 @@ pub fn turn_crossing(d: Desk, m: u32) -> Desk
 fn main_speed(main: Main, settings: Settings, top: u32) -> u32
     ensures { result ≡ main_speed main.kind main settings top }
 {
-    let kind = main.kind;
-    match kind {
+    match main.kind {
         MainKind::Clear => top,
-        MainKind::Start => {
-            let row = settings.start;
-            row_speed(row, main.age)
-        }
-        MainKind::ConditionalClear => {
-            let row = settings.conditional_clear;
-            row_speed(row, main.age)
-        }
-        MainKind::Announcement => {
-            let row = settings.announcement;
-            row_speed(row, main.age)
-        }
-        MainKind::Preannouncement => {
-            let row = settings.preannouncement;
-            row_speed(row, main.age)
-        }
-        MainKind::Caution => {
-            let row = settings.caution;
-            row_speed(row, main.age)
-        }
-        MainKind::BeforeStop => {
-            let row = settings.before_stop;
-            row_speed(row, main.age)
-        }
+        MainKind::Start => row_speed(settings.start, main.age),
+        MainKind::ConditionalClear => row_speed(settings.conditional_clear, main.age),
+        MainKind::Announcement => row_speed(settings.announcement, main.age),
+        MainKind::Preannouncement => row_speed(settings.preannouncement, main.age),
+        MainKind::Caution => row_speed(settings.caution, main.age),
+        MainKind::BeforeStop => row_speed(settings.before_stop, main.age),
         MainKind::Stop => stop_speed(main.increased, top),
         MainKind::Zone => 1000,
     }
@@ -144,20 +128,21 @@ fn bts_limit(bts: bool, speed: u8) -> Standing
     ensures { result ≡ bts_limit bts speed }
 {
     if bts {
-        return Standing::at(Reason::Bts, leaf::hundredths(speed), 0);
+        Standing::at(Reason::Bts, leaf::hundredths(speed), 0)
+    } else {
+        Standing::none()
     }
-    Standing::none()
 }
 
 #[tactic(auto, unfolding(crate::specs::Speed::main_limit))]
 fn main_limit(main: Main, settings: Settings, top: u32) -> Standing
     ensures { result ≡ main_limit settings top main }
 {
-    let stands = main.limits();
-    if stands {
-        return Standing::at(Reason::Main, main_speed(main, settings, top), main.age);
+    if main.limits() {
+        Standing::at(Reason::Main, main_speed(main, settings, top), main.age)
+    } else {
+        Standing::none()
     }
-    Standing::none()
 }
 
 #[tactic(auto, unfolding(crate::specs::Speed::alongside_limit))]
@@ -165,28 +150,29 @@ fn alongside_limit(alongside: Alongside, top: u32) -> Standing
     ensures { result ≡ alongside_limit top alongside }
 {
     if alongside.on {
-        return Standing::at(
+        Standing::at(
             Reason::Alongside,
             stop_speed(alongside.increased, top),
             alongside.age,
-        );
+        )
+    } else {
+        Standing::none()
     }
-    Standing::none()
 }
 
 #[tactic(auto, unfolding(crate::specs::Speed::crossing_limit))]
 fn crossing_limit(crossing: Crossing, row: Row, top: u32) -> Standing
     ensures { result ≡ crossing_limit row top crossing }
 {
-    let stands = crossing.is_standing();
-    if stands {
-        return Standing::at(
+    if crossing.is_standing() {
+        Standing::at(
             Reason::Crossing,
             crossing.speed(row_speed(row, crossing.age), top),
             crossing.age,
-        );
+        )
+    } else {
+        Standing::none()
     }
-    Standing::none()
 }
 
 #[tactic(auto, unfolding(crate::specs::Speed::limit_limit))]
@@ -194,13 +180,14 @@ fn limit_limit(limit: Limit, row: Row, top: u32) -> Standing
     ensures { result ≡ limit_limit row top limit }
 {
     if limit.on {
-        return Standing::at(
+        Standing::at(
             Reason::Limit,
             limit.speed(row_speed(row, limit.age), row.last, top),
             limit.age,
-        );
+        )
+    } else {
+        Standing::none()
     }
-    Standing::none()
 }
 
 #[tactic(auto, unfolding(crate::specs::Speed::paired_limit, crate::specs::Speed::bts_limit, crate::specs::Speed::main_limit, crate::specs::Speed::limit_limit, crate::specs::Speed::alongside_limit, crate::specs::Speed::crossing_limit))]
@@ -209,18 +196,19 @@ fn paired_limit(limits: FourLimits, speed: u8, top: u32) -> Standing
 {
     let limit = limits.at(speed);
     if limit.on {
-        return Standing::at(Reason::Paired, paired_speed(top, speed), limit.age);
+        Standing::at(Reason::Paired, paired_speed(top, speed), limit.age)
+    } else {
+        Standing::none()
     }
-    Standing::none()
 }
 
-// The lowest so far, with the paired limits.
+// The lowest so far, with the paired limits: a line each, in their order. A fold over the speeds says no more, and needs a lemma on the list
+// so far to be proved.
 #[tactic(auto, using(crate::proofs::Paired::none_lower))]
 fn or_paired(lowest: Standing, limits: FourLimits, top: u32) -> Standing
     ensures { result ≡ least_of lowest (paired_limits top limits pair_speeds) }
 {
-    let any = limits.any();
-    if any {
+    if limits.any() {
         return lowest
             .or_lower(paired_limit(limits, 30, top))
             .or_lower(paired_limit(limits, 40, top))
@@ -234,31 +222,23 @@ fn or_paired(lowest: Standing, limits: FourLimits, top: u32) -> Standing
 fn or_beside(lowest: Standing, beside: Beside, settings: Settings, top: u32) -> Standing
     ensures { result ≡ least_of lowest (limits_beside settings top beside) }
 {
-    let alongside = beside.alongside;
-    let crossing = beside.crossing;
-    let limit = beside.limit;
-    let crossing_row = settings.crossing;
-    let limit_row = settings.limit;
-    let limits = beside.paired.limits;
     let single = lowest
-        .or_lower(alongside_limit(alongside, top))
-        .or_lower(crossing_limit(crossing, crossing_row, top))
-        .or_lower(limit_limit(limit, limit_row, top));
-    or_paired(single, limits, top)
+        .or_lower(alongside_limit(beside.alongside, top))
+        .or_lower(crossing_limit(beside.crossing, settings.crossing, top))
+        .or_lower(limit_limit(beside.limit, settings.limit, top));
+    or_paired(single, beside.paired.limits, top)
 }
 
 // The lowest of the limits that stand, of equal ones the first.
 fn lowest_limit(d: Desk, settings: Settings, top: u32) -> Standing
     ensures { result ≡ least_of none (limits settings top d) }
 {
-    let main = d.main;
-    let beside = d.beside;
     let lowest = Standing::none()
         .or_lower(Standing::at(Reason::Vmax, leaf::hundredths(settings.vmax), 0))
         .or_lower(Standing::at(Reason::Train, top, 0))
         .or_lower(bts_limit(d.bts, settings.bts))
-        .or_lower(main_limit(main, settings, top));
-    or_beside(lowest, beside, settings, top)
+        .or_lower(main_limit(d.main, settings, top));
+    or_beside(lowest, d.beside, settings, top)
 }
 
 // The limit that sets S, whose speed is S: the first of those that stand and equal it.
@@ -273,5 +253,5 @@ pub fn reason_at(d: Desk, settings: Settings, top: u32) -> Standing
 pub fn too_fast(m: u32, s: u32) -> bool
     ensures { result ≡ exceeds_of m (s + 500) }
 {
-    25 * ((s as u64) + 500) < 9 * (m as u64)
+    25 * (u64::from(s) + 500) < 9 * u64::from(m)
 }
