@@ -1,4 +1,5 @@
 pub mod Listed
+pub mod Checked
 pub mod Rows
 pub mod InRange
 pub mod Area

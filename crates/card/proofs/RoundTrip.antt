@@ -16,9 +16,8 @@ use Rattle.card.specs.Writing.{bytes_of, record_of, write_card, written, written
 use Rattle.card.specs.Plain.{functions_setting, x_setting, y_setting, SettingsMet, Known, HeaderMet, accepted, WriteMet}
 use Rattle.card.specs.declared.Pairs.{Pairs}
 use Rattle.card.specs.declared.Settings.{Settings}
-use Rattle.card.specs.declared.Reading.{Reading}
-use Rattle.card.specs.declared.Reading.TheVariants.{Read}
-use Rattle.card.specs.declared.Written.{Written}
+use Rattle.leaf.specs.declared.refusal.Refusal.{Refusal}
+use Rattle.std.specs.Prelude.{Result, Ok}
 use Rattle.card.proofs.InRange.{reminder_zero, no_pairs_lem}
 use Rattle.card.proofs.Area.{version_cases, length_is}
 use Rattle.card.proofs.Exactly.{card_met, read_exactly}
@@ -107,8 +106,8 @@ round_trip v h s buffer m known high =
     (done, rw done (record_reads v h s (drop (length_of v) buffer) m.known known high m.settings))
 
 -- the same of the functions' own results: w and what the buffer holds after it meet the writer's promise, r the reader's
-pub round_trip_results : (v h : ℕ) (s : Settings) (before after : List ℕ) (w : Written) (r : Reading)
+pub round_trip_results : (v h : ℕ) (s : Settings) (before after : List ℕ) (w : Result Unit Refusal) (r : Result Settings Refusal)
     → written_of w ≡ write_card v s (length before) → after ≡ leaves (written_of w) v s before → paper_of r ≡ read_card after h
-    → WriteMet v s (length before) → v ≤ h → h ≤ 3 → r ≡ Read s
+    → WriteMet v s (length before) → v ≤ h → h ≤ 3 → r ≡ Ok s
 round_trip_results v h s before after w r pw pa pr m known high =
-    paper_one r (Read s) (pr ∙ rw (pa, pw) (round_trip v h s before m known high).1)
+    paper_one r (Ok s) (pr ∙ rw (pa, pw) (round_trip v h s before m known high).1)

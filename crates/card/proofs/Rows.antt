@@ -2,20 +2,14 @@
 use Prim.Native.Nat.{ℕ, zero, suc, ◌+◌, ◌*◌, ◌≤◌, ◌<◌}
 use native.Mathlib.Omega.{arith}
 use native.Mathlib.Nat.{add-zero}
-use native.Mathlib.Numerals.{add-one}
-use mathlib.Core.Path.{◌≡◌, refl, ap, ◌∙◌}
-use mathlib.Core.Bool.{Bool, true, false, ◌&&◌}
+use mathlib.Core.Path.{◌≡◌, refl}
 use mathlib.Core.List.{List, [], ◌∷◌, ◌++◌}
 use mathlib.Core.Logic.{◌↔◌}
-use lib.Dec.{T, eqb}
 use lib.ListN.{length, take, drop, get_or}
-use lib.Seq.{drop-cons}
-use borrow.Author.Tests.{ne_eqb}
 use Rattle.leaf.specs.Bytes.{byte}
-use Rattle.leaf.specs.Choosing.{pick}
-use Rattle.leaf.specs.Checks.{Check, first_bad, Fine, numbered, all_hold, all_hold_lem}
+use Rattle.leaf.specs.Checks.{Check, Fine}
 use Rattle.card.specs.Card.{base_kind, row_at}
-use Rattle.card.specs.Ranges.{place_of, head_checks, row_checks, rows_of, row_of, rows_checks, tail_checks, pairs_checks, settings_inside, checks_of}
+use Rattle.card.specs.Ranges.{place_of, row_checks, rows_of, row_of, rows_checks, tail_checks, pairs_checks, checks_of}
 use Rattle.card.specs.Reading.{settings_of}
 use Rattle.card.specs.Plain.{Within, SettingMet}
 use Rattle.card.specs.declared.Kind.{Kind}
@@ -63,66 +57,3 @@ rows_met kind s =
       λ f i here. (both.0 (all_map (test_met kind 2 s) (of_rows 0 (rows_of s) []) f)).0 i (omega arith) here,
       λ m. all_map (met_test kind 2 s) (of_rows 0 (rows_of s) []) (both.1 (λ i low here. m i here, tt)),
     )
-
--- ---- row by row, as the code goes
-
--- the checks from row i on are the rule of row i, and the checks from the next row on
-pub rows_from : (kind : Kind) (s : Settings) (i : ℕ) → i < 8
-    → rows_checks kind (4 + 4 * i) (drop i (rows_of s)) ≡ row_checks kind (4 + 4 * i) (row_of s i) ++ rows_checks kind (4 + 4 * (i + 1)) (drop (i + 1) (rows_of s))
-rows_from kind s i here = of_any (rows_of s) here
-  where
-    of_any : (rows : List Row) → i < length rows
-        → rows_checks kind (4 + 4 * i) (drop i rows) ≡ row_checks kind (4 + 4 * i) (get_or rows i s.start) ++ rows_checks kind (4 + 4 * (i + 1)) (drop (i + 1) rows)
-    of_any rows here = let next : 4 + 4 * suc i ≡ 4 + 4 * i + 4 = omega arith in rw (drop-cons rows i s.start here, add-one i, next)
-
--- ---- whether all hold
-
-none_hold : (cs : List Check) → all_hold false cs ≡ false
-none_hold [] = refl
-none_hold (c ∷ rest) = none_hold rest
-
--- no place of a row is 0
-row-numbered : (i : ℕ) → i < 8 → (row : Row) → T (numbered (row_checks base_kind (4 + 4 * i) row))
-row-numbered i here row =
-    let p = row_places i here in
-    rw (ne_eqb (place_of base_kind (4 + 4 * i)) 0 (λ e. omega (arith, p.0)), ne_eqb (place_of base_kind (4 + 4 * i + 1)) 0 (λ e. omega (arith, p.1)), ne_eqb (place_of base_kind (4 + 4 * i + 3)) 0 (λ e. omega (arith, p.2))) tt
-
--- whether all hold from row i on, by whether the rule finds no fault in row i
-pub rows_hold : (s : Settings) (i : ℕ) → i < 8 → (t : Bool) → eqb (first_bad 0 (row_checks base_kind (4 + 4 * i) (row_of s i))) 0 ≡ t
-    → all_hold true (rows_checks base_kind (4 + 4 * i) (drop i (rows_of s))) ≡ all_hold t (rows_checks base_kind (4 + 4 * (i + 1)) (drop (i + 1) (rows_of s)))
-rows_hold s i here t e =
-    let this = all_hold_lem (row_checks base_kind (4 + 4 * i) (row_of s i)) (row-numbered i here (row_of s i)) ∙ e in
-    ap (all_hold true) (rows_from base_kind s i here) ∙ ap (λ b. all_hold b (rows_checks base_kind (4 + 4 * (i + 1)) (drop (i + 1) (rows_of s)))) this
-
-pub rows_out : (s : Settings) (i : ℕ) → i < 8 → eqb (first_bad 0 (row_checks base_kind (4 + 4 * i) (row_of s i))) 0 ≡ false
-    → all_hold true (rows_checks base_kind (4 + 4 * i) (drop i (rows_of s))) ≡ false
-rows_out s i here e = rows_hold s i here false e ∙ none_hold (rows_checks base_kind (4 + 4 * (i + 1)) (drop (i + 1) (rows_of s)))
-
--- what was asked before is asked besides
-besides : (b : Bool) (cs : List Check) → all_hold b cs ≡ pick (all_hold true cs) b false
-besides true cs = cases (all_hold true cs)
-  where
-    cases : (t : Bool) → t ≡ pick t true false
-    cases true = refl
-    cases false = refl
-besides false cs = none_hold cs ∙ cases (all_hold true cs)
-  where
-    cases : (t : Bool) → false ≡ pick t false false
-    cases true = refl
-    cases false = refl
-
-and_hold : (b : Bool) (cs : List Check) → all_hold b cs ≡ (b && all_hold true cs)
-and_hold true cs = refl
-and_hold false cs = none_hold cs
-
--- whether all settings are in range, by whether the rows are: then what stands before them and behind them decides
-pub inside_by : (kind : Kind) (v : ℕ) (s : Settings) (t : Bool) → all_hold true (rows_checks base_kind 4 (rows_of s)) ≡ t
-    → settings_inside kind v s ≡ pick t (all_hold true (head_checks kind s ++ tail_checks kind v s) && all_hold true (pairs_checks base_kind v s.pairs)) false
-unfolding settings_inside
-inside_by kind v s t e =
-    ap (λ b. all_hold b (tail_checks kind v s ++ pairs_checks kind v s.pairs)) (besides (all_hold true (head_checks kind s)) (rows_checks kind 4 (rows_of s)) ∙ ap (λ b. pick b (all_hold true (head_checks kind s)) false) e) ∙ cases t
-  where
-    cases : (t : Bool)
-        → all_hold (pick t (all_hold true (head_checks kind s)) false) (tail_checks kind v s ++ pairs_checks kind v s.pairs) ≡ pick t (all_hold true (head_checks kind s ++ tail_checks kind v s) && all_hold true (pairs_checks base_kind v s.pairs)) false
-    cases true = and_hold (all_hold true (head_checks kind s ++ tail_checks kind v s)) (pairs_checks kind v s.pairs)
-    cases false = refl

@@ -11,7 +11,9 @@ use Rattle.leaf.specs.Choosing.{pick}
 use Rattle.leaf.specs.Bytes.{byte}
 use Rattle.card.specs.Card.{base_kind, length_of, no_pairs, pairs_at, reminds, speaks, Same}
 use Rattle.card.specs.Reading.{functions_from, pairs_from, settings_from, read_card, paper_of, card_in}
-use Rattle.card.specs.declared.Reading.{Reading}
+use Rattle.card.specs.declared.Settings.{Settings}
+use Rattle.leaf.specs.declared.refusal.Refusal.{Refusal}
+use Rattle.std.specs.Prelude.{Result}
 use Rattle.card.proofs.Area.{length_low, length_later}
 use Rattle.card.proofs.Determined.{paper_one}
 use Rattle.card.proofs.Same.{same_word, same_pairs_lem, same_part, same_settings}
@@ -101,7 +103,7 @@ module _ (a b : List ℕ) (h : ℕ) (fits_a : length_of (byte a 2) ≤ length a)
       rw (same_all, w, le-leb _ _ a3, le-leb _ _ fits_a, ← e, le-leb _ _ b3, le-leb _ _ fits_b)
 
   -- and of any two results of the reader
-  pub silence_results : (r t : Reading) → paper_of r ≡ read_card a h → paper_of t ≡ read_card b h → r ≡ t
+  pub silence_results : (r t : Result Settings Refusal) → paper_of r ≡ read_card a h → paper_of t ≡ read_card b h → r ≡ t
   silence_results r t pr pt = paper_one r t (pr ∙ silence ∙ sym pt)
 
   -- so are the cards in them, which are of the same version

@@ -13,7 +13,8 @@ use Rattle.card.specs.Ranges.{settings_fault, fault_of}
 use Rattle.card.specs.Reading.{functions_from, pairs_from, settings_from, settings_of, read_card, paper_of}
 use Rattle.card.specs.Plain.{Known, HeaderMet, version_above}
 use Rattle.card.specs.declared.Settings.{Settings}
-use Rattle.card.specs.declared.Reading.{Reading}
+use Rattle.leaf.specs.declared.refusal.Refusal.{Refusal}
+use Rattle.std.specs.Prelude.{Result}
 use Rattle.card.proofs.Determined.{paper_one}
 use Rattle.card.proofs.Exactly.{header_passes, read_exactly}
 use Rattle.card.proofs.Same.{same_settings}
@@ -68,5 +69,5 @@ module _ (a b : List ℕ) (one : byte a 2 ≡ 1) (two : byte b 2 ≡ 2) (common 
   pub versions_alike : (h g : ℕ) → HeaderMet a h → HeaderMet b g → read_card a h ≡ read_card b g
   versions_alike h g head_a head_b = header_passes a h head_a ∙ rw (one, two, fault_12, same_12) refl ∙ sym (header_passes b g head_b)
 
-  pub versions_alike_results : (h g : ℕ) → HeaderMet a h → HeaderMet b g → (r t : Reading) → paper_of r ≡ read_card a h → paper_of t ≡ read_card b g → r ≡ t
+  pub versions_alike_results : (h g : ℕ) → HeaderMet a h → HeaderMet b g → (r t : Result Settings Refusal) → paper_of r ≡ read_card a h → paper_of t ≡ read_card b g → r ≡ t
   versions_alike_results h g head_a head_b r t pr pt = paper_one r t (pr ∙ versions_alike h g head_a head_b ∙ sym pt)

@@ -6,8 +6,8 @@ use Rattle.leaf.specs.Choosing.{pick}
 use Rattle.leaf.specs.Bytes.{over, over_whole}
 use Rattle.leaf.specs.Checks.{Fine, none_bad}
 use Rattle.leaf.specs.Answers.{given, refused, refused_at, refusal_of}
-use Rattle.leaf.specs.declared.Refusal.{Refusal}
-use Rattle.leaf.specs.declared.Refusal.TheVariants.{Number, At}
+use Rattle.leaf.specs.declared.refusal.Refusal.{Refusal}
+use Rattle.leaf.specs.declared.refusal.Refusal.TheVariants.{AreaTooShort, NoSuchVersion, VersionTooNew, WrongLength, OutOfRange, NoSuchReader, WrongTrain, SessionOutOfRange, SampleOutOfRange, TooFast, ModeWhileMoving, BadSheet, NoRoom, BadRecording}
 use Rattle.card.specs.Card.{length_of}
 use Rattle.card.specs.Reading.{answer_by}
 use Rattle.card.specs.Writing.{bytes_of, record_of, record_checks, write_card, written, leaves}
@@ -74,5 +74,17 @@ put_whole v s buffer h =
 
 -- "A refusal .. leaves buffers .. unchanged."
 pub refusal-leaves : (why : Refusal) (v : ℕ) (s : Settings) (buffer : List ℕ) → leaves (refusal_of why) v s buffer ≡ buffer
-refusal-leaves (Number n) v s buffer = refl
-refusal-leaves (At n p) v s buffer = refl
+refusal-leaves AreaTooShort v s buffer = refl
+refusal-leaves NoSuchVersion v s buffer = refl
+refusal-leaves VersionTooNew v s buffer = refl
+refusal-leaves WrongLength v s buffer = refl
+refusal-leaves (OutOfRange place) v s buffer = refl
+refusal-leaves NoSuchReader v s buffer = refl
+refusal-leaves WrongTrain v s buffer = refl
+refusal-leaves SessionOutOfRange v s buffer = refl
+refusal-leaves SampleOutOfRange v s buffer = refl
+refusal-leaves TooFast v s buffer = refl
+refusal-leaves ModeWhileMoving v s buffer = refl
+refusal-leaves (BadSheet place) v s buffer = refl
+refusal-leaves NoRoom v s buffer = refl
+refusal-leaves BadRecording v s buffer = refl

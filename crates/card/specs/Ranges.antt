@@ -1,17 +1,18 @@
 -- Document 01, "The card", and 02 g: the range of each setting, with the place that refusal 5 gives where it is not met. Each is so many bytes
 -- behind the first setting of the card's kind, and the range of vmax is the kind's.
-use Rattle.std.specs.Prelude.{ℕ, ◌+◌, ◌%◌, List, [], ◌∷◌, ◌++◌, Bool, true, ◌||◌, leb, eqb, get_or}
+use Rattle.std.specs.Prelude.{ℕ, ◌+◌, ◌%◌, List, [], ◌∷◌, ◌++◌, Bool, true, ◌&&◌, ◌||◌, leb, eqb, get_or, Result, Ok, Err}
+use Rattle.std.specs.List.{list_all}
 use Rattle.leaf.specs.Choosing.{pick}
 use Rattle.leaf.specs.Numbers.{within}
 use Rattle.leaf.specs.Checks.{Check, first_bad, all_hold}
-use Rattle.leaf.specs.Answers.{Answer, given, refused_at}
+use Rattle.leaf.specs.Answers.{Answer, given, refused_at, on_paper, ensured}
+use Rattle.leaf.specs.declared.refusal.Refusal.{Refusal}
+use Rattle.leaf.specs.declared.refusal.Refusal.TheVariants.{OutOfRange}
 use Rattle.card.specs.Card.{base_kind, speeds_of, reminds}
 use Rattle.card.specs.declared.Kind.{Kind}
 use Rattle.card.specs.declared.Row.{Row}
 use Rattle.card.specs.declared.Pairs.{Pairs}
 use Rattle.card.specs.declared.Settings.{Settings}
-use Rattle.card.specs.declared.Checked.{Checked}
-use Rattle.card.specs.declared.Checked.TheVariants.{InRange, FaultAt}
 
 -- ---- each setting's place and range
 
@@ -60,6 +61,10 @@ row_checks kind offset row =
 abbrev pub rows_checks : Kind → ℕ → List Row → List Check
 rows_checks kind offset [] = []
 rows_checks kind offset (row ∷ rest) = row_checks kind offset row ++ rows_checks kind (offset + 4) rest
+
+-- the rule of a row, whatever its place
+abbrev pub row_met : Row → Bool
+row_met row = within 1 200 row.initial && within 1 row.initial row.last && leb 1 row.drop
 
 -- ---- what stands behind the rows
 
@@ -125,10 +130,46 @@ found_at place = pick (eqb place 0) in_range (refused_at 5 place)
 abbrev pub check_of : Kind → ℕ → Settings → Answer Unit
 check_of kind version s = found_at (settings_fault kind version s)
 
--- what each case of the check's answer is on paper
-abbrev pub checked_of : Checked → Answer Unit
-checked_of InRange = in_range
-checked_of (FaultAt place) = refused_at 5 place
+-- what the check's answer is on paper
+abbrev pub checked_of : Result Unit Refusal → Answer Unit
+checked_of result = on_paper result
+
+-- ---- the same, refusal by refusal, as a function answers it
+
+-- the refusal of a check that fails; a place 0 is none, as it is to `first_bad`
+abbrev pub refused_by : Check → Result Unit Refusal
+refused_by check = ensured (check.1 || eqb check.0 0) (OutOfRange check.0)
+
+-- what was refused, or what is answered behind it
+abbrev pub or_else : Result Unit Refusal → Result Unit Refusal → Result Unit Refusal
+or_else (Ok _) behind = behind
+or_else (Err why) behind = Err why
+
+-- the refusal of the first of the checks that fails
+abbrev pub first_refused : List Check → Result Unit Refusal
+first_refused [] = Ok tt
+first_refused (c ∷ rest) = or_else (refused_by c) (first_refused rest)
+
+-- that of the rows
+unfoldable pub rows_refused : Kind → List Row → Result Unit Refusal
+rows_refused kind rows = first_refused (rows_checks kind 4 rows)
+
+-- that of the settings: before the rows, in them, behind them, in the pairs
+unfoldable pub settings_refused : Kind → ℕ → Settings → Result Unit Refusal
+settings_refused kind version s =
+    or_else (first_refused (head_checks kind s))
+    (or_else (rows_refused kind (rows_of s))
+    (or_else (first_refused (tail_checks kind version s)) (first_refused (pairs_checks kind version s.pairs))))
+
+-- whether each row meets the rule
+unfoldable pub rows_met : List Row → Bool
+rows_met rows = list_all row_met rows
+
+-- whether all settings are in range, with one test of a row
+unfoldable pub settings_met : Kind → ℕ → Settings → Bool
+settings_met kind version s =
+    all_hold true (head_checks kind s) && rows_met (rows_of s) && all_hold true (tail_checks kind version s)
+    && all_hold true (pairs_checks kind version s.pairs)
 
 -- ---- on this card
 

@@ -1,19 +1,16 @@
 -- Document 01, "The card" and refusals 1 to 6, and 02 g: what an area of bytes reads as.
-use Rattle.std.specs.Prelude.{ℕ, ◌+◌, List, [], ◌∷◌, Bool, not, leb, eqb, length}
+use Rattle.std.specs.Prelude.{ℕ, ◌+◌, List, [], ◌∷◌, Bool, not, leb, eqb, length, Result}
 use Rattle.leaf.specs.Choosing.{pick}
 use Rattle.leaf.specs.Bytes.{byte, word}
 use Rattle.leaf.specs.Checks.{Check, first_bad}
-use Rattle.leaf.specs.Answers.{Answer, given, refused, refused_at, refusal_of}
+use Rattle.leaf.specs.Answers.{Answer, given, refused, refused_at, on_paper}
+use Rattle.leaf.specs.declared.refusal.Refusal.{Refusal}
 use Rattle.card.specs.Card.{base_kind, length_of, known, row_at, no_pairs, pairs_at, reminds}
 use Rattle.card.specs.Ranges.{fault_of}
 use Rattle.card.specs.declared.Kind.{Kind}
 use Rattle.card.specs.declared.Pairs.{Pairs}
 use Rattle.card.specs.declared.Settings.{Settings}
 use Rattle.card.specs.declared.Card.{Card}
-use Rattle.card.specs.declared.Reading.{Reading}
-use Rattle.card.specs.declared.Reading.TheVariants.{Read, Refused}
-use Rattle.card.specs.declared.Found.{Found}
-use Rattle.card.specs.declared.Found.TheVariants as found
 
 -- ---- the settings of an area
 
@@ -89,10 +86,9 @@ card_checks area highest = read_checks area highest (eqb (fault_of (byte area 2)
 unfoldable pub read_card : List ℕ → ℕ → Answer Settings
 read_card area highest = answer_by (first_bad 0 (card_checks area highest)) (fault_of (byte area 2) (settings_of area)) (settings_of area)
 
--- what each case of the reader's answer is on paper
-abbrev pub paper_of : Reading → Answer Settings
-paper_of (Read s) = given s
-paper_of (Refused why) = refusal_of why
+-- what the reader's answer is on paper
+abbrev pub paper_of : Result Settings Refusal → Answer Settings
+paper_of result = on_paper result
 
 -- ---- the card: 02 g: "the opening now takes the version"
 
@@ -106,7 +102,6 @@ beside_version version (refused_at n place) = refused_at n place
 unfoldable pub card_in : List ℕ → ℕ → Answer Card
 card_in area highest = beside_version (byte area 2) (read_card area highest)
 
--- what each case of it is on paper
-abbrev pub found_of : Found → Answer Card
-found_of (found.Read card) = given card
-found_of (found.Refused why) = refusal_of why
+-- what it is on paper
+abbrev pub found_of : Result Card Refusal → Answer Card
+found_of result = on_paper result

@@ -1,16 +1,15 @@
 -- Document 01, "The card" and refusals 2, 5 and 13, and 02 g: what the writer answers, and what it leaves in the buffer lent to it.
-use Rattle.std.specs.Prelude.{ℕ, List, [], ◌∷◌, ◌++◌, Bool, leb, eqb, take, drop}
+use Rattle.std.specs.Prelude.{ℕ, List, [], ◌∷◌, ◌++◌, Bool, leb, eqb, take, drop, Result}
 use Rattle.leaf.specs.Bytes.{pair}
 use Rattle.leaf.specs.Checks.{Check, first_bad}
-use Rattle.leaf.specs.Answers.{Answer, given, refused, refused_at, refusal_of}
+use Rattle.leaf.specs.Answers.{Answer, given, refused, refused_at, on_paper}
+use Rattle.leaf.specs.declared.refusal.Refusal.{Refusal}
 use Rattle.card.specs.Card.{length_of, known, speeds_of}
 use Rattle.card.specs.Ranges.{fault_of}
 use Rattle.card.specs.Reading.{answer_by}
 use Rattle.card.specs.declared.Row.{Row}
 use Rattle.card.specs.declared.Pairs.{Pairs}
 use Rattle.card.specs.declared.Settings.{Settings}
-use Rattle.card.specs.declared.Written.{Written}
-use Rattle.card.specs.declared.Written.TheVariants.{Done, NotWritten}
 
 -- ---- the record
 
@@ -58,10 +57,9 @@ written = tt
 unfoldable pub write_card : ℕ → Settings → ℕ → Answer Unit
 write_card version s room = answer_by (first_bad 0 (record_checks version s room)) (fault_of version s) written
 
--- what each case of the writer's answer is on paper
-abbrev pub written_of : Written → Answer Unit
-written_of Done = given written
-written_of (NotWritten why) = refusal_of why
+-- what the writer's answer is on paper
+abbrev pub written_of : Result Unit Refusal → Answer Unit
+written_of result = on_paper result
 
 -- ---- the buffer
 

@@ -8,114 +8,123 @@ ghost use Rattle.card.specs.Writing.{bytes_of};
 
 use crate::ranges::has_reminder;
 use crate::{Kind, Pairs, Row, Settings};
-use leaf::{byte_at, choose8, choose16, high, low, word_at};
+use leaf::{byte_at, word_at};
 
 // The length of a record of this version.
 pub fn length_of(version: u8) -> u16
     ensures { result ≡ length_of version }
 {
-    choose16(
-        version == 1,
-        Settings::LENGTH_1,
-        choose16(version == 2, Settings::LENGTH_2, Settings::LENGTH_3),
-    )
-}
-
-fn byte_from(area: &[u8], kind: Kind, offset: u8) -> u8
-    ensures { result ≡ byte area.now (kind.first + offset) }
-{
-    byte_at(area, (kind.first as usize) + (offset as usize))
-}
-
-fn word_from(area: &[u8], kind: Kind, offset: u8) -> u16
-    ensures { result ≡ word area.now (kind.first + offset) }
-{
-    word_at(area, (kind.first as u32) + (offset as u32))
-}
-
-#[tactic(auto, unfolding(crate::specs::Card::row_at))]
-fn row_from(area: &[u8], kind: Kind, offset: u8) -> Row
-    ensures { result ≡ row_at area.now (kind.first + offset) }
-{
-    let at = (kind.first as usize) + (offset as usize);
-    Row {
-        initial: byte_at(area, at),
-        last: byte_at(area, at + 1),
-        delay: byte_at(area, at + 2),
-        drop: byte_at(area, at + 3),
+    match version {
+        1 => Settings::LENGTH_1,
+        2 => Settings::LENGTH_2,
+        _ => Settings::LENGTH_3,
     }
 }
 
-// A version 1 card has functions 0, whatever stands behind it.
-#[tactic(auto, unfolding(crate::specs::Reading::functions_from))]
-fn functions_from(kind: Kind, version: u8, area: &[u8]) -> u8
-    ensures { result ≡ functions_from kind version area.now }
-{
-    let there = byte_from(area, kind, 36);
-    choose8(version == 1, 0, there)
-}
+impl Kind {
+    fn byte_from(self, area: &[u8], offset: u8) -> u8
+        ensures { result ≡ byte area.now (self.first + offset) }
+    {
+        byte_at(area, usize::from(self.first) + usize::from(offset))
+    }
 
-// The pairs of a version 3 card. Cards of other versions have none, whatever stands behind them.
-#[tactic(auto, unfolding(crate::specs::Reading::pairs_from, crate::specs::Card::pairs_at))]
-fn pairs_from(kind: Kind, version: u8, area: &[u8]) -> Pairs
-    ensures { result ≡ pairs_from kind version area.now }
-{
-    let there = version == 3;
-    if there {
-        let at = (kind.first as usize) + 41;
-        return Pairs {
+    fn word_from(self, area: &[u8], offset: u8) -> u16
+        ensures { result ≡ word area.now (self.first + offset) }
+    {
+        word_at(area, u32::from(self.first) + u32::from(offset))
+    }
+
+    #[tactic(auto, unfolding(crate::specs::Card::row_at))]
+    fn row_from(self, area: &[u8], offset: u8) -> Row
+        ensures { result ≡ row_at area.now (self.first + offset) }
+    {
+        let at = usize::from(self.first) + usize::from(offset);
+        Row {
+            initial: byte_at(area, at),
+            last: byte_at(area, at + 1),
+            delay: byte_at(area, at + 2),
+            drop: byte_at(area, at + 3),
+        }
+    }
+
+    // A version 1 card has functions 0, whatever stands behind it.
+    #[tactic(auto, unfolding(crate::specs::Reading::functions_from))]
+    fn functions_from(self, version: u8, area: &[u8]) -> u8
+        ensures { result ≡ functions_from self version area.now }
+    {
+        if version == 1 {
+            0
+        } else {
+            self.byte_from(area, 36)
+        }
+    }
+
+    // The pairs of a version 3 card. Cards of other versions have none, whatever stands behind them.
+    #[tactic(auto, unfolding(crate::specs::Reading::pairs_from, crate::specs::Card::pairs_at))]
+    fn pairs_from(self, version: u8, area: &[u8]) -> Pairs
+        ensures { result ≡ pairs_from self version area.now }
+    {
+        if version != 3 {
+            return Pairs::NONE;
+        }
+        let at = usize::from(self.first) + 41;
+        Pairs {
             ten_ten: byte_at(area, at),
             ten_eleven: byte_at(area, at + 1),
             eleven_ten: byte_at(area, at + 2),
             eleven_eleven: byte_at(area, at + 3),
             distance: byte_at(area, at + 4),
-        };
+        }
     }
-    Pairs::NONE
-}
 
-impl Kind {
     // The settings of an area that holds a record of this kind and version.
+    #[tactic(auto, unfolding(crate::specs::Reading::settings_from))]
     pub fn settings_from(self, version: u8, area: &[u8]) -> Settings
         ensures { result ≡ settings_from self version area.now }
     {
-        let functions = functions_from(self, version, area);
-        let on = has_reminder(functions);
-        let x = word_from(area, self, 37);
-        let y = word_from(area, self, 39);
+        let functions = self.functions_from(version, area);
+        let (x, y) = if has_reminder(functions) {
+            (self.word_from(area, 37), self.word_from(area, 39))
+        } else {
+            (0, 0)
+        };
         Settings {
-            vmax: byte_from(area, self, 0),
-            tick: word_from(area, self, 1),
-            bts: byte_from(area, self, 3),
-            conditional_clear: row_from(area, self, 4),
-            announcement: row_from(area, self, 8),
-            preannouncement: row_from(area, self, 12),
-            caution: row_from(area, self, 16),
-            before_stop: row_from(area, self, 20),
-            crossing: row_from(area, self, 24),
-            limit: row_from(area, self, 28),
-            start: row_from(area, self, 32),
+            vmax: self.byte_from(area, 0),
+            tick: self.word_from(area, 1),
+            bts: self.byte_from(area, 3),
+            conditional_clear: self.row_from(area, 4),
+            announcement: self.row_from(area, 8),
+            preannouncement: self.row_from(area, 12),
+            caution: self.row_from(area, 16),
+            before_stop: self.row_from(area, 20),
+            crossing: self.row_from(area, 24),
+            limit: self.row_from(area, 28),
+            start: self.row_from(area, 32),
             functions,
-            x: choose16(on, x, 0),
-            y: choose16(on, y, 0),
-            pairs: pairs_from(self, version, area),
+            x,
+            y,
+            pairs: self.pairs_from(version, area),
         }
     }
 }
 
-// The bytes of the longest record; those of a shorter one come first among them.
+// The bytes of the longest record; those of a shorter one come first among them. They stand one by one, in the order of
+// `bytes_of`: a copy of each part into a zeroed array would say every place once more.
 #[tactic(auto, unfolding(crate::specs::Writing::bytes_of))]
 pub fn encode(version: u8, s: Settings) -> [u8; 49]
     ensures { result ≡ bytes_of version s }
 {
-    let n = length_of(version);
+    let [length_high, length_low] = length_of(version).to_be_bytes();
+    let [tick_high, tick_low] = s.tick.to_be_bytes();
+    let [x_high, x_low] = s.x.to_be_bytes();
+    let [y_high, y_low] = s.y.to_be_bytes();
     [
-        high(n),
-        low(n),
+        length_high,
+        length_low,
         version,
         s.vmax,
-        high(s.tick),
-        low(s.tick),
+        tick_high,
+        tick_low,
         s.bts,
         s.conditional_clear.initial,
         s.conditional_clear.last,
@@ -150,10 +159,10 @@ pub fn encode(version: u8, s: Settings) -> [u8; 49]
         s.start.delay,
         s.start.drop,
         s.functions,
-        high(s.x),
-        low(s.x),
-        high(s.y),
-        low(s.y),
+        x_high,
+        x_low,
+        y_high,
+        y_low,
         s.pairs.ten_ten,
         s.pairs.ten_eleven,
         s.pairs.eleven_ten,
