@@ -219,7 +219,7 @@ impl FourLimits {
     }
 
     // The speed of the lowest that may go at m mm/s, 0 where none may: a number and no `Option`, as the definition of this name, which
-    // those of buttons and lamps cite. Most samples have none of the four, and then one test costs less than four.
+    // those of buttons and lamps cite. Where none of the four stands, as in most samples, no speed is tried.
     #[tactic(auto, unfolding(crate::specs::Pairs::lowest_to_go), using(crate::specs::Laws::none_goes, crate::proofs::Lowest::found_here, crate::proofs::Lowest::found_behind))]
     pub fn lowest_to_go(self, m: u32, top: u32) -> u8
         ensures { result ≡ lowest_to_go m top self }
