@@ -1,6 +1,9 @@
 -- What the functions' proofs cite: bit patterns, the paper's numbers as the code's constants, that a row in order is finite, and one row more in each
 -- definition that counts rows. Assumes nothing.
-use mathlib.Core.Path.{◌≡◌, refl, sym, ◌∙◌, subst}
+use mathlib.Core.Path.{◌≡◌, refl, sym, ap, ◌∙◌, subst}
+use mathlib.Core.Logic.{inl, inr}
+use native.Mathlib.Nat.{eq-or-lt_of_le, le_of_suc-le-suc}
+use native.Mathlib.Omega.{arith}
 use mathlib.Core.Bool.{Bool, true, false, not, ◌&&◌, ◌||◌}
 use mathlib.Core.List.{List, [], ◌∷◌, ◌++◌, map}
 use Prim.Native.Nat.{ℕ, zero, suc, ◌+◌, ◌%◌, ◌<◌, ◌≤◌}
@@ -13,19 +16,20 @@ use lib.Ieee.Bits.{nan_bits_above, nan_bits_is}
 use lib.Ieee.Fits.{and_i, and_l, and_r}
 use lib.Ieee.Scale.{finite}
 use borrow.Author.Tests.{le-ltb, lt-ltb, eq-eqb, ne_eqb}
-use Rattle.leaf.specs.Answers.{Answer, given, refused, refused_at, refusal_of}
-use Rattle.leaf.specs.declared.Refusal.{Refusal}
-use Rattle.leaf.specs.declared.Refusal.TheVariants.{Number, At}
+use Rattle.std.specs.Prelude.{Result, Ok, Err}
+use Rattle.std.specs.List.{list_any}
+use Rattle.std.proofs.lemmas.List.Folds.{list_any_more}
+use Rattle.leaf.specs.Answers.{Answer, given, refused, refused_at, refusal_of, on_paper, ensured}
+use Rattle.leaf.specs.declared.refusal.Refusal.{Refusal}
+use Rattle.leaf.specs.declared.refusal.Refusal.TheVariants.{AreaTooShort, NoSuchVersion, VersionTooNew, WrongLength, OutOfRange, NoSuchReader, WrongTrain, SessionOutOfRange, SampleOutOfRange, TooFast, ModeWhileMoving, BadSheet, NoRoom, BadRecording}
 use Rattle.leaf.specs.Bytes.{byte, word}
 use Rattle.leaf.specs.Choosing.{pick}
 use Rattle.leaf.specs.Checks.{Check, or_fault, first_bad}
 use Rattle.tone.specs.declared.ToneRow.{ToneRow}
 use Rattle.tone.specs.declared.Sheet.{Sheet}
-use Rattle.tone.specs.declared.SheetAnswer.{SheetAnswer}
-use Rattle.tone.specs.declared.Fault.TheVariants.{Sound, Bad}
 use Rattle.tone.specs.declared.Reading.TheVariants.{Beacon, Nothing}
 use Rattle.tone.specs.Facts.{Order}
-use Rattle.tone.specs.Tones.{VERSION, place_of, row_at, rows_of, sheet_of, khz, all_finite, in_order, row_ok, share, row_of, shares_earlier, good_at, checks_of, fault_of, in_row, reading_of, offset_from, read_from, no_row, whole_sheet, read_sheet, paper_of_sheet, beside_of, read_under, classify_of}
+use Rattle.tone.specs.Tones.{VERSION, place_of, row_at, rows_of, sheet_of, khz, all_finite, in_order, row_ok, share, row_of, shares_earlier, good_at, checks_of, fault_of, in_row, reading_of, offset_from, read_from, no_row, whole_sheet, read_sheet, paper_of_sheet, beside_of, good_beside, bad_at, behind, sheet_read, read_under, classify_of}
 
 -- ---- bit patterns of an f32
 
@@ -150,10 +154,6 @@ in_order_ok r = absorb (all_finite r) (in_order r) (in_order_finite r)
 
 -- ---- one row more, at the code's i + 1
 
-pub shares_more : (rows : List ToneRow) (i : ℕ) (r : ToneRow) → shares_earlier rows (i + 1) r ≡ (shares_earlier rows i r || share (row_of rows i) r)
-unfolding shares_earlier
-shares_more rows i r = rw add-one
-
 pub rows_more : (area : List ℕ) (rows : List ToneRow) (i : ℕ) (r : ToneRow) → i < length rows → take i rows ≡ rows_of area i → r ≡ row_at area (place_of i) → take (i + 1) (set rows i r) ≡ rows_of area (i + 1)
 unfolding rows_of
 rows_more area rows i r h e k = rw (add-one, take-suc-set rows i r h, e, k)
@@ -173,6 +173,63 @@ fault_suc version rows n = bad_more 0 (checks_of version rows n) (place_of n) (g
 
 pub fault_more : (version : ℕ) (rows : List ToneRow) (i : ℕ) → fault_of version rows (i + 1) ≡ or_fault (fault_of version rows i) (place_of i) (good_at rows i)
 fault_more version rows i = rw add-one (fault_suc version rows i)
+
+-- a fault that was found stays the first
+fault_stays : (version : ℕ) (rows : List ToneRow) (n m : ℕ) → n ≤ m → (fault_of version rows n ≡ 0 → ⊥) → fault_of version rows m ≡ fault_of version rows n
+unfolding or_fault
+fault_stays version rows n zero l z = let e : n ≡ 0 = omega arith in rw e
+fault_stays version rows n (suc m) l z =
+    elim (eq-or-lt_of_le l) [
+      | inl e ↦ rw e
+      | inr h ↦
+          let before = fault_stays version rows n m (le_of_suc-le-suc h) z in
+          fault_suc version rows m ∙ rw (before, ne_eqb (fault_of version rows n) 0 z)
+    ]
+
+-- a row beside the earlier ones, as the code has it
+shares_one : (rows : List ToneRow) (r : ToneRow) (n : ℕ) → n ≤ length rows → list_any (λ row. share row r) (take n rows) ≡ shares_earlier rows n r
+unfolding shares_earlier
+shares_one rows r zero l = refl
+shares_one rows r (suc n) l =
+    let one : suc n ≡ n + 1 = omega arith in
+    let same : take (suc n) rows ≡ take (n + 1) rows = ap (λ m. take m rows) one in
+    let inside : n < length rows = omega arith in
+    rw (same, list_any_more (λ row. share row r) rows n no_row inside, shares_one rows r n (omega arith))
+
+good_is : (rows : List ToneRow) (k : ℕ) → k < length rows → good_beside (take k rows) (row_of rows k) ≡ good_at rows k
+unfolding good_beside good_at
+good_is rows k h = rw (shares_one rows (row_of rows k) k (omega arith))
+
+-- the version's fault is the first
+pub version_first : (version : ℕ) (rows : List ToneRow) → eqb version VERSION ≡ false → bad_at (fault_of version rows 12) ≡ Err (BadSheet 2)
+unfolding bad_at or_fault
+version_first version rows e =
+    let two : fault_of version rows 0 ≡ 2 = fault_none version rows ∙ rw e in
+    rw (fault_stays version rows 0 12 (omega arith) (λ z. omega (arith, two, z)), two)
+
+-- where it has none, none is found before the rows
+pub none_at : (version : ℕ) (rows : List ToneRow) → eqb version VERSION ≡ true → fault_of version rows 0 ≡ 0
+unfolding or_fault
+none_at version rows e = fault_none version rows ∙ rw e
+
+-- none is found before the next row where this one is good
+pub none_more : (version : ℕ) (rows : List ToneRow) (k : ℕ) → k < length rows → fault_of version rows k ≡ 0
+    → good_beside (take k rows) (row_of rows k) ≡ true → fault_of version rows (k + 1) ≡ 0
+unfolding or_fault
+none_more version rows k h none good = fault_more version rows k ∙ rw (none, sym (good_is rows k h) ∙ good)
+
+-- and else this one's place is the first
+pub row_first : (version : ℕ) (rows : List ToneRow) (k : ℕ) → length rows ≡ 12 → k < 12 → fault_of version rows k ≡ 0
+    → good_beside (take k rows) (row_of rows k) ≡ false → bad_at (fault_of version rows 12) ≡ Err (BadSheet (place_of k))
+unfolding bad_at or_fault
+row_first version rows k twelve h none bad =
+    let inside : k < length rows = omega arith in
+    let this : fault_of version rows (k + 1) ≡ place_of k = fault_more version rows k ∙ rw (none, sym (good_is rows k inside) ∙ bad) in
+    rw (fault_stays version rows (k + 1) 12 (omega arith) (λ z. omega (arith, this, z)), this, ne_eqb (place_of k) 0 (λ z. omega arith))
+
+pub none_bad : (version : ℕ) (rows : List ToneRow) → fault_of version rows 12 ≡ 0 → bad_at (fault_of version rows 12) ≡ Ok tt
+unfolding bad_at
+none_bad version rows e = rw e
 
 -- what is read from row k on: row k, or what is read from k + 1 on, or nothing at the end
 module _ (rows : List ToneRow) (k : ℕ) (tone : Float) (h : k < length rows) where
@@ -205,30 +262,29 @@ sheet_all sheet area h e = let k : sheet.rows ≡ rows_of area 12 = sym (take_al
 
 -- ---- the reader's answer, whole and on paper
 
--- an answer that is the whole of one on paper has that one on paper
-pub paper_of_beside : (r : SheetAnswer) (a : Answer Sheet) → r ≡ beside_of a → (paper_of_sheet r ≡ a) × (r ≡ beside_of a)
-paper_of_beside r a e = (rw e (back a), e)
+-- the reader's answer, refusal by refusal, is the whole of that on paper
+pub sheet_beside : (area : List ℕ) → sheet_read area ≡ beside_of (read_sheet area)
+unfolding sheet_read read_sheet bad_at sheet_of
+sheet_beside area = cases (whole_sheet area) (eqb (fault_of (byte area 2) (rows_of area 12) 12) 0)
   where
-    back : (a : Answer Sheet) → paper_of_sheet (beside_of a) ≡ a
-    back (given s) = refl
-    back (refused n) = refl
-    back (refused_at n p) = refl
+    cases : (w p : Bool)
+        → behind (ensured w (BadSheet 0)) (behind (pick p (Ok tt) (Err (BadSheet (fault_of (byte area 2) (rows_of area 12) 12)))) (Ok (sheet_of area)))
+        ≡ beside_of (pick w (pick p (given (sheet_of area)) (refused_at 12 (fault_of (byte area 2) (rows_of area 12) 12))) (refused_at 12 0))
+    cases false p = refl
+    cases true true = refl
+    cases true false = refl
 
--- the length's test, as the code has it
-module _ (area : List ℕ) (field : ℕ) (is : field ≡ word area 0) where
-  pub not_whole : not (leb 147 (length area) && eqb field 147) ≡ true → whole_sheet area ≡ false
-  not_whole h = rw is at (no (leb 147 (length area) && eqb field 147) h)
-    where
-      no : (b : Bool) → not b ≡ true → b ≡ false
-      no true e = sym e
-      no false e = refl
-
-  pub is_whole : not (leb 147 (length area) && eqb field 147) ≡ false → whole_sheet area ≡ true
-  is_whole h = rw is at (yes (leb 147 (length area) && eqb field 147) h)
-    where
-      yes : (b : Bool) → not b ≡ false → b ≡ true
-      yes true e = refl
-      yes false e = sym e
+-- and on paper it is that
+pub sheet_paper : (area : List ℕ) → paper_of_sheet (sheet_read area) ≡ read_sheet area
+unfolding sheet_read read_sheet bad_at sheet_of
+sheet_paper area = cases (whole_sheet area) (eqb (fault_of (byte area 2) (rows_of area 12) 12) 0)
+  where
+    cases : (w p : Bool)
+        → on_paper (behind (ensured w (BadSheet 0)) (behind (pick p (Ok tt) (Err (BadSheet (fault_of (byte area 2) (rows_of area 12) 12)))) (Ok (sheet_of area))))
+        ≡ pick w (pick p (given (sheet_of area)) (refused_at 12 (fault_of (byte area 2) (rows_of area 12) 12))) (refused_at 12 0)
+    cases false p = refl
+    cases true true = refl
+    cases true false = refl
 
 -- what `read_sheet` comes to at each of its cases
 module _ (area : List ℕ) where
@@ -247,14 +303,26 @@ module _ (area : List ℕ) where
 
 -- ---- the classifier's answer
 
-pub classify_reads : (area : List ℕ) (tone : Float) (r : SheetAnswer) → paper_of_sheet r ≡ read_sheet area → r.fault ≡ Sound → classify_of area tone ≡ given (read_from 0 r.sheet.rows tone)
+pub classify_reads : (area : List ℕ) (tone : Float) (sheet : Sheet) → given sheet ≡ read_sheet area → classify_of area tone ≡ given (read_from 0 sheet.rows tone)
 unfolding classify_of
-classify_reads area tone r e k = rw (← e, k)
+classify_reads area tone sheet e = rw (← e)
 
-pub classify_refuses : (area : List ℕ) (tone : Float) (r : SheetAnswer) (f : Refusal) → paper_of_sheet r ≡ read_sheet area → r.fault ≡ Bad f → classify_of area tone ≡ refusal_of f
+pub classify_refuses : (area : List ℕ) (tone : Float) (why : Refusal) → refusal_of why ≡ read_sheet area → classify_of area tone ≡ refusal_of why
 unfolding classify_of
-classify_refuses area tone r f e k = rw (← e, k) (same f)
+classify_refuses area tone why e = rw (← e) (same why)
   where
-    same : (f : Refusal) → read_under (refusal_of f) tone ≡ refusal_of f
-    same (Number n) = refl
-    same (At n p) = refl
+    same : (why : Refusal) → read_under (refusal_of why) tone ≡ refusal_of why
+    same AreaTooShort = refl
+    same NoSuchVersion = refl
+    same VersionTooNew = refl
+    same WrongLength = refl
+    same (OutOfRange place) = refl
+    same NoSuchReader = refl
+    same WrongTrain = refl
+    same SessionOutOfRange = refl
+    same SampleOutOfRange = refl
+    same TooFast = refl
+    same ModeWhileMoving = refl
+    same (BadSheet place) = refl
+    same NoRoom = refl
+    same BadRecording = refl

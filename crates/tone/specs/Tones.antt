@@ -1,6 +1,7 @@
 -- Document 01, "Tones", sentence by sentence. A float is `lib.Ieee`'s: `nan`, `inf s`, or `fin s m e`, which is ±m * 2 ^ e, each
 -- written in one way only, so that `≡` is equality bit for bit. `le x y` is false where either is not a number. Definitions only.
-use Rattle.std.specs.Prelude.{Bool, false, not, ◌&&◌, ◌||◌, List, [], ◌∷◌, ◌++◌, ℕ, zero, suc, ◌+◌, ◌*◌, length, get_or, replicate, pos, leb, eqb, Float}
+use Rattle.std.specs.Prelude.{Bool, false, not, ◌&&◌, ◌||◌, List, [], ◌∷◌, ◌++◌, ℕ, zero, suc, ◌+◌, ◌*◌, length, get_or, replicate, pos, leb, eqb, Float, Result, Ok, Err}
+use Rattle.std.specs.List.{list_any}
 use Rattle.std.specs.Float.{nan, binary32}
 use Rattle.std.specs.Float.Ieee.{of_bits, of_int, le, mul, sub}
 use Rattle.std.specs.Float.Ieee.Scale.{finite}
@@ -8,17 +9,13 @@ use Rattle.leaf.specs.Choosing.{pick}
 use Rattle.leaf.specs.Bytes.{byte, word, long}
 use Rattle.leaf.specs.Numbers.{quiet_code}
 use Rattle.leaf.specs.Checks.{Check, first_bad}
-use Rattle.leaf.specs.Answers.{Answer, given, refused, refused_at, refusal_of}
-use Rattle.leaf.specs.declared.Refusal.TheVariants.{Number, At}
+use Rattle.leaf.specs.Answers.{Answer, given, refused, refused_at, on_paper, ensured, numbered_refusal}
+use Rattle.leaf.specs.declared.refusal.Refusal.{Refusal}
+use Rattle.leaf.specs.declared.refusal.Refusal.TheVariants.{OutOfRange, BadSheet}
 use Rattle.tone.specs.declared.ToneRow.{ToneRow}
 use Rattle.tone.specs.declared.Sheet.{Sheet}
-use Rattle.tone.specs.declared.Fault.{Fault}
-use Rattle.tone.specs.declared.Fault.TheVariants.{Sound, Bad}
-use Rattle.tone.specs.declared.SheetAnswer.{SheetAnswer}
 use Rattle.tone.specs.declared.Reading.{Reading}
 use Rattle.tone.specs.declared.Reading.TheVariants.{Beacon, Permanent, Nothing}
-use Rattle.tone.specs.declared.ToneAnswer.{ToneAnswer}
-use Rattle.tone.specs.declared.ToneAnswer.TheVariants.{Reads, Refused}
 
 -- ---- "Sheet, 147 bytes: length, version 1, then twelve rows of three f32 bit patterns, permanent tone first, then beacons 1..11."
 
@@ -109,25 +106,41 @@ read_sheet area =
     pick (whole_sheet area) (pick (eqb place 0) (given (sheet_of area)) (refused_at BAD_SHEET place)) (refused_at BAD_SHEET 0)
 
 -- the reader's answer on paper
-abbrev pub paper_of_sheet : SheetAnswer → Answer Sheet
-paper_of_sheet r = go r.fault
-  where
-    go : Fault → Answer Sheet
-    go Sound = given r.sheet
-    go (Bad f) = refusal_of f
+abbrev pub paper_of_sheet : Result Sheet Refusal → Answer Sheet
+paper_of_sheet r = on_paper r
 
--- what stands beside a refusal: twelve rows of zeros
+-- a sheet before it is read: twelve rows of zeros
 abbrev pub blank_row : ToneRow
 blank_row = record { low = khz 0; centre = khz 0; high = khz 0 }
 
 abbrev pub blank_sheet : Sheet
 blank_sheet = record { rows = replicate ROWS blank_row }
 
--- the whole of the reader's answer: the sheet, or a refusal with a blank sheet beside it
-abbrev pub beside_of : Answer Sheet → SheetAnswer
-beside_of (given sheet) = record { fault = Sound; sheet = sheet }
-beside_of (refused n) = record { fault = Bad (Number n); sheet = blank_sheet }
-beside_of (refused_at n place) = record { fault = Bad (At n place); sheet = blank_sheet }
+-- the whole of the reader's answer: the sheet, or the refusal with its place
+abbrev pub beside_of : Answer Sheet → Result Sheet Refusal
+beside_of (given sheet) = Ok sheet
+beside_of (refused n) = Err (numbered_refusal n)
+beside_of (refused_at n place) = Err (pick (eqb n BAD_SHEET) (BadSheet place) (OutOfRange place))
+
+-- ---- the same, refusal by refusal, as a function answers it
+
+-- a row beside the earlier ones: good by itself, and no tone shared with one of them
+unfoldable pub good_beside : List ToneRow → ToneRow → Bool
+good_beside earlier r = row_ok r && not (list_any (λ row. share row r) earlier)
+
+-- the answer by the place of the first fault, 0 being none
+unfoldable pub bad_at : ℕ → Result Unit Refusal
+bad_at place = pick (eqb place 0) (Ok tt) (Err (BadSheet place))
+
+-- what is answered behind a check that passed
+abbrev pub behind : Result Unit Refusal → Result Sheet Refusal → Result Sheet Refusal
+behind (Ok _) answer = answer
+behind (Err why) answer = Err why
+
+-- the length, then the version and the rows, then the sheet
+unfoldable pub sheet_read : List ℕ → Result Sheet Refusal
+sheet_read area =
+    behind (ensured (whole_sheet area) (BadSheet 0)) (behind (bad_at (fault_of (byte area 2) (sheet_of area).rows ROWS)) (Ok (sheet_of area)))
 
 -- ---- "A tone reads as a beacon with its offset, the permanent tone with its offset, or nothing."
 
@@ -159,9 +172,8 @@ unfoldable pub classify_of : List ℕ → Float → Answer Reading
 classify_of area tone = read_under (read_sheet area) tone
 
 -- the classifier's answer on paper
-abbrev pub paper_of : ToneAnswer → Answer Reading
-paper_of (Reads reading) = given reading
-paper_of (Refused f) = refusal_of f
+abbrev pub paper_of : Result Reading Refusal → Answer Reading
+paper_of r = on_paper r
 
 -- ---- "The ride's beacon code is 0 for permanent or nothing.", where nothing's gives way to 02 c: "The classifier's answer "nothing" becomes code
 -- 12 and no longer code 0"

@@ -8,21 +8,15 @@
 ghost use Rattle.std.specs.Prelude.{◌≡◌, ◌≤◌, ◌<◌};
 ghost use Rattle.std.specs.Float.{binary32};
 ghost use Rattle.std.specs.Float.Ieee.{of_bits};
-ghost use Rattle.tone.specs.Tones.{place_of, row_at, sheet_of, row_ok, share, shares_earlier, good_at, fault_of, read_sheet, paper_of_sheet, blank_sheet, beside_of, in_row, reading_of, read_from, classify_of, paper_of, code_of};
-ghost use Rattle.leaf.specs.Answers.{refused_at};
+ghost use Rattle.std.specs.List.{list_any};
+ghost use Rattle.tone.specs.Tones.{place_of, row_at, sheet_of, row_ok, share, good_beside, fault_of, bad_at, read_sheet, sheet_read, paper_of_sheet, blank_sheet, beside_of, in_row, reading_of, read_from, classify_of, paper_of, code_of};
 
-use leaf::{QUIET_CODE, Refusal};
+use leaf::{QUIET_CODE, Refusal, byte_at, ensure, long_at, word_at};
 
 // A sheet's length field, which is also how many of an area's bytes are looked at, and its version.
 const LENGTH: u16 = 147;
 
 const VERSION: u8 = 1;
-
-// The permanent tone's and eleven beacons'.
-const ROWS: usize = 12;
-
-// Refusal 12: tone sheet bad, with place.
-const BAD_SHEET: u8 = 12;
 
 // A row of the sheet, in kHz.
 #[derive(Clone, Copy)]
@@ -44,27 +38,6 @@ pub enum Reading {
     Beacon(u8, f32),
     Permanent(f32),
     Nothing,
-}
-
-// Whether a sheet is accepted.
-#[derive(Clone, Copy)]
-pub enum Fault {
-    Sound,
-    Bad(Refusal),
-}
-
-// A sheet, blank where it is refused.
-#[derive(Clone, Copy)]
-pub struct SheetAnswer {
-    pub fault: Fault,
-    pub sheet: Sheet,
-}
-
-// What a tone reads as, or the sheet's refusal.
-#[derive(Clone, Copy)]
-pub enum ToneAnswer {
-    Reads(Reading),
-    Refused(Refusal),
 }
 
 // ---- a row
@@ -93,9 +66,9 @@ fn row_at(area: &[u8], at: u32) -> ToneRow
     ensures { result ≡ row_at area.now at }
 {
     ToneRow {
-        low: float_of(leaf::long_at(area, at)),
-        centre: float_of(leaf::long_at(area, at + 4)),
-        high: float_of(leaf::long_at(area, at + 8)),
+        low: float_of(long_at(area, at)),
+        centre: float_of(long_at(area, at + 4)),
+        high: float_of(long_at(area, at + 8)),
     }
 }
 
@@ -115,14 +88,28 @@ impl ToneRow {
     fn shares(self, other: ToneRow) -> bool
         ensures { result ≡ share self other }
     {
-        (self.low <= other.high) & (other.low <= self.high)
+        self.low <= other.high && other.low <= self.high
+    }
+
+    fn shares_with_one_of(self, earlier: &[ToneRow]) -> bool
+        ensures { result ≡ list_any (λ row. share row self) earlier.now }
+    {
+        earlier.iter().any(|row| row.shares(self))
+    }
+
+    // Is the row good by itself and beside the earlier ones.
+    #[tactic(auto, unfolding(crate::specs::Tones::good_beside))]
+    fn is_good_beside(self, earlier: &[ToneRow]) -> bool
+        ensures { result ≡ good_beside earlier.now self }
+    {
+        self.is_ok() && !self.shares_with_one_of(earlier)
     }
 
     // Does the tone lie in the row, ends included.
     fn holds(self, tone: f32) -> bool
         ensures { result ≡ in_row self tone }
     {
-        (self.low <= tone) & (tone <= self.high)
+        self.low <= tone && tone <= self.high
     }
 }
 
@@ -144,51 +131,25 @@ fn sheet_of(area: &[u8]) -> Sheet
     ensures { result ≡ sheet_of area.now }
 {
     let mut sheet = blank_sheet();
-    let mut k = 0;
-    while k < ROWS {
-        let row = row_at(area, place_of(k) as u32);
-        sheet.rows[k] = row;
-        k += 1;
+    for (k, row) in sheet.rows.iter_mut().enumerate() {
+        *row = row_at(area, place_of(k).into());
     }
     sheet
 }
 
 impl Sheet {
-    // Does the row share a tone with one of the first n.
-    fn shares_earlier(self, n: usize, row: ToneRow) -> bool
-        requires { n ≤ 12 }
-        ensures { result ≡ shares_earlier self.rows n row }
+    // The refusal by the first fault of the version or a row.
+    #[tactic(auto, using(crate::proofs::Laws::version_first, crate::proofs::Laws::row_first, crate::proofs::Laws::none_at, crate::proofs::Laws::none_more, crate::proofs::Laws::none_bad))]
+    fn check(self, version: u8) -> Result<(), Refusal>
+        ensures { result ≡ bad_at (fault_of version self.rows 12) }
     {
-        let mut any = false;
-        let mut i = 0;
-        while i < n {
-            let earlier = self.rows[i];
-            any = any | earlier.shares(row);
-            i += 1;
+        ensure(version == VERSION, Refusal::BadSheet { place: 2 })?;
+        for (k, row) in self.rows.iter().enumerate() {
+            let good = row.is_good_beside(&self.rows[..k]);
+            let place = place_of(k);
+            ensure(good, Refusal::BadSheet { place })?;
         }
-        any
-    }
-
-    // Is row k good by itself and beside the earlier ones.
-    fn good_at(self, k: usize) -> bool
-        requires { k < 12 }
-        ensures { result ≡ good_at self.rows k }
-    {
-        let row = self.rows[k];
-        row.is_ok() & !self.shares_earlier(k, row)
-    }
-
-    // The place of the first fault of the version or a row, or 0.
-    fn fault(self, version: u8) -> u8
-        ensures { result ≡ fault_of version self.rows 12 }
-    {
-        let mut found = leaf::or_fault(0, 2, version == VERSION);
-        let mut k = 0;
-        while k < ROWS {
-            found = leaf::or_fault(found, place_of(k), self.good_at(k));
-            k += 1;
-        }
-        found
+        Ok(())
     }
 
     // What the tone reads as under the first of the rows that it lies in.
@@ -196,77 +157,56 @@ impl Sheet {
     fn read(self, tone: f32) -> Reading
         ensures { result ≡ read_from 0 self.rows tone }
     {
-        let mut k = 0;
-        while k < ROWS {
-            let row = self.rows[k];
+        for (k, row) in self.rows.iter().enumerate() {
             if row.holds(tone) {
-                return reading_of(k, tone - row.centre);
+                return reading_of(k as u8, tone - row.centre);
             }
-            k += 1;
         }
         Reading::Nothing
     }
 }
 
-// Refusal 12 with its place, and a blank sheet beside it.
-fn refused(place: u8) -> SheetAnswer
-    ensures { result ≡ beside_of (refused_at 12 place) }
+// The sheet in the area, or its first refusal.
+#[tactic(auto, unfolding(crate::specs::Tones::sheet_read))]
+fn sheet_in(area: &[u8]) -> Result<Sheet, Refusal>
+    ensures { result ≡ sheet_read area.now }
 {
-    let sheet = blank_sheet();
-    SheetAnswer {
-        fault: Fault::Bad(Refusal::At(BAD_SHEET, place)),
-        sheet,
-    }
+    let whole = usize::from(LENGTH) <= area.len() && word_at(area, 0) == LENGTH;
+    ensure(whole, Refusal::BadSheet { place: 0 })?;
+    let sheet = sheet_of(area);
+    sheet.check(byte_at(area, 2))?;
+    Ok(sheet)
 }
 
-// The sheet in the area, or refusal 12 with the place of the first fault and a blank sheet.
-#[tactic(auto, using(crate::proofs::Laws::is_whole, crate::proofs::Laws::not_whole, crate::proofs::Laws::paper_of_beside, crate::proofs::Laws::read_length, crate::proofs::Laws::read_place, crate::proofs::Laws::read_sound))]
-pub fn read_sheet(area: &[u8]) -> SheetAnswer
+// The sheet in the area, or refusal 12 with the place of the first fault.
+#[tactic(auto, using(crate::proofs::Laws::sheet_beside, crate::proofs::Laws::sheet_paper))]
+pub fn read_sheet(area: &[u8]) -> Result<Sheet, Refusal>
     ensures paper { paper_of_sheet result ≡ read_sheet area.now }
     ensures whole { result ≡ beside_of (read_sheet area.now) }
 {
-    let whole = ((LENGTH as usize) <= area.len()) & (leaf::word_at(area, 0) == LENGTH);
-    if !whole {
-        return refused(0);
-    }
-    let sheet = sheet_of(area);
-    let place = sheet.fault(leaf::byte_at(area, 2));
-    if place != 0 {
-        return refused(place);
-    }
-    SheetAnswer {
-        fault: Fault::Sound,
-        sheet,
-    }
+    sheet_in(area)
 }
 
 // ---- the classifier
 
 // What row k reads as with the offset: row 0 is the permanent tone's, row k beacon k's.
-fn reading_of(k: usize, offset: f32) -> Reading
-    requires { k < 12 }
+fn reading_of(k: u8, offset: f32) -> Reading
     ensures { result ≡ reading_of k offset }
 {
     if k == 0 {
         Reading::Permanent(offset)
     } else {
-        Reading::Beacon(k as u8, offset)
+        Reading::Beacon(k, offset)
     }
 }
 
 // What the tone reads as under the sheet in the area, or the sheet's refusal.
-pub fn classify(area: &[u8], tone: f32) -> ToneAnswer
+#[tactic(auto, using(crate::proofs::Laws::classify_reads, crate::proofs::Laws::classify_refuses))]
+pub fn classify(area: &[u8], tone: f32) -> Result<Reading, Refusal>
     ensures { paper_of result ≡ classify_of area.now tone }
 {
-    let answer = read_sheet(area);
-    let fault = answer.fault;
-    match fault {
-        Fault::Bad(refusal) => ToneAnswer::Refused(refusal),
-        Fault::Sound => {
-            let sheet = answer.sheet;
-            ToneAnswer::Reads(sheet.read(tone))
-        }
-    }
+    let sheet = read_sheet(area)?;
+    Ok(sheet.read(tone))
 }
 
 impl Reading {

@@ -1,4 +1,4 @@
-use Rattle.std.proofs.Common.{rules, arith}
+use Rattle.std.proofs.Common.{arith}
 use mathlib.Core.Path.{◌≡◌, ap, refl}
 use lib.ListN.{length, length-set}
 use Rattle.tone.specs.declared.Sheet.{Sheet}
@@ -8,13 +8,15 @@ use Rattle.tone.proofs.sheet_of.Goals as goal
 
 pub loop-k-init : goal.loop-k-init
 unfolding rows_of
-loop-k-init c = (search rules, ap (λ (s : Sheet). length s.rows) c.blank_sheet-sheet.ensures, refl)
+loop-k-init c = (ap (λ (s : Sheet). length s.rows) c.blank_sheet-sheet.ensures, refl)
 
 pub loop-k-preserved : goal.loop-k-preserved
-loop-k-preserved c = let s = c.loop-k.sheet in
-    let k = c.loop-k.k in
+loop-k-preserved c =
     let inv = c.loop-k.invariant in
-    (omega arith, simp length-set inv.1, rows_more _ s.rows k c.row_at-row.result (omega arith) inv.2 (rw c.place_of.ensures at c.row_at-row.ensures))
+    (simp length-set inv.0, rows_more _ c.loop-k.row-items c.loop-k.k _ (omega arith) inv.1 (rw (c.into.ensures, c.place_of.ensures) at c.row_at.ensures))
 
 pub returns : goal.returns
-returns c = let e : c.loop-k.k ≡ 12 = omega arith in sheet_all c.loop-k.sheet _ (omega arith) (rw e at c.loop-k.invariant.2)
+returns c =
+    let n : length c.loop-k.row-items ≡ 12 = c.loop-k.invariant.0 in
+    let e : c.loop-k.k ≡ 12 = omega arith in
+    sheet_all _ _ (omega arith) (rw e at c.loop-k.invariant.1)
