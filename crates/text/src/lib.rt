@@ -13,12 +13,25 @@ ghost use Rattle.text.specs.Hex.{glyph as Hex·glyph, hex_of, pattern_of, hex_va
 ghost use Rattle.text.specs.Typing.{typed};
 ghost use Rattle.text.specs.Words.{word_of, labelled, refusal_text};
 
-use leaf::{Refusal, choose8, choose32, in_range, less};
+use leaf::Refusal;
 
 // What parts the words of a list.
 const BAR: u8 = b'|';
 
 const POINT: u8 = b'.';
+
+// What the digits of a number before the last one stand for.
+const POWERS: [u32; 9] = [
+    1_000_000_000,
+    100_000_000,
+    10_000_000,
+    1_000_000,
+    100_000,
+    10_000,
+    1_000,
+    100,
+    10,
+];
 
 // As many bytes of a file as a program looks at.
 pub const MOST: usize = 65536;
@@ -43,23 +56,10 @@ pub fn put_text(out: &mut [u8], at: usize, text: &[u8]) -> usize
     ensures { (out.new, result) ≡ typed text.now (out.old, at) }
 {
     let mut place = at;
-    let mut i = 0;
-    while i < text.len() {
-        place = put(out, place, text[i]);
-        i += 1;
+    for &byte in text {
+        place = put(out, place, byte);
     }
     place
-}
-
-// The byte, where the test holds.
-#[tactic(auto, unfolding(crate::specs::Typing::typed))]
-fn put_if(out: &mut [u8], at: usize, test: bool, byte: u8) -> usize
-    ensures { (out.new, result) ≡ typed (pick test (byte ∷ []) []) (out.old, at) }
-{
-    if test {
-        return put(out, at, byte);
-    }
-    at
 }
 
 // The word that k bars stand before in a list of words with a bar between them; nothing where there are fewer.
@@ -69,16 +69,15 @@ pub fn put_word(out: &mut [u8], at: usize, words: &[u8], k: u32) -> usize
 {
     let mut place = at;
     let mut left = k;
-    let mut i = 0;
-    while i < words.len() {
-        let here = left == 0;
-        let bar = words[i] == BAR;
-        if here & bar {
-            return place;
+    for &letter in words {
+        if letter == BAR {
+            if left == 0 {
+                return place;
+            }
+            left -= 1;
+        } else if left == 0 {
+            place = put(out, place, letter);
         }
-        place = put_if(out, place, here, words[i]);
-        left = choose32(bar, less(left, 1), left);
-        i += 1;
     }
     place
 }
@@ -89,18 +88,14 @@ pub fn put_word(out: &mut [u8], at: usize, words: &[u8], k: u32) -> usize
 pub fn counted(area: &[u8]) -> u32
     ensures { result ≡ Decimal·counted area.now }
 {
-    if area.len() < MOST {
-        area.len() as u32
-    } else {
-        65536
-    }
+    area.len().min(MOST) as u32
 }
 
 fn digit(n: u32) -> u8
     requires { n ≤ 9 }
     ensures { result ≡ 48 + n }
 {
-    48 + (n as u8)
+    b'0' + n as u8
 }
 
 // The digit that stands for a power of ten, where n reaches it.
@@ -115,39 +110,20 @@ fn put_digit(out: &mut [u8], at: usize, power: u32, n: u32) -> usize
     put(out, at, digit(n / power % 10))
 }
 
-#[tactic(auto, unfolding(crate::specs::Typing::typed, crate::specs::Decimal::upper_of))]
-fn put_upper(out: &mut [u8], at: usize, n: u32) -> usize
-    ensures { (out.new, result) ≡ typed (upper_of n) (out.old, at) }
-{
-    let at = put_digit(out, at, 1000000000, n);
-    let at = put_digit(out, at, 100000000, n);
-    let at = put_digit(out, at, 10000000, n);
-    let at = put_digit(out, at, 1000000, n);
-    put_digit(out, at, 100000, n)
-}
-
-#[tactic(auto, unfolding(crate::specs::Typing::typed, crate::specs::Decimal::lower_of))]
-fn put_lower(out: &mut [u8], at: usize, n: u32) -> usize
-    ensures { (out.new, result) ≡ typed (lower_of n) (out.old, at) }
-{
-    let at = put_digit(out, at, 10000, n);
-    let at = put_digit(out, at, 1000, n);
-    let at = put_digit(out, at, 100, n);
-    let at = put_digit(out, at, 10, n);
-    put(out, at, digit(n % 10))
-}
-
 // A number in decimal.
-#[tactic(auto, unfolding(crate::specs::Typing::typed, crate::specs::Decimal::decimal, crate::specs::Decimal::upper_of, crate::specs::Decimal::lower_of))]
+#[tactic(auto, unfolding(crate::specs::Typing::typed, crate::proofs::Digits::digits_of), using(crate::proofs::Digits::all_digits))]
 pub fn put_number(out: &mut [u8], at: usize, n: u32) -> usize
     ensures { (out.new, result) ≡ typed (decimal n) (out.old, at) }
 {
-    let at = put_upper(out, at, n);
-    put_lower(out, at, n)
+    let mut place = at;
+    for power in POWERS {
+        place = put_digit(out, place, power, n);
+    }
+    put(out, place, digit(n % 10))
 }
 
 // A number in decimal, and what ends it: a blank, or a line's end.
-#[tactic(auto, unfolding(crate::specs::Typing::typed, crate::specs::Decimal::decimal, crate::specs::Decimal::upper_of, crate::specs::Decimal::lower_of))]
+#[tactic(auto, using(crate::specs::Typing::then_typed))]
 pub fn put_ended(out: &mut [u8], at: usize, n: u32, end: u8) -> usize
     ensures { (out.new, result) ≡ typed (ended n end) (out.old, at) }
 {
@@ -165,7 +141,7 @@ pub fn put_labelled(out: &mut [u8], at: usize, words: &[u8], n: u32) -> usize
 }
 
 // A number of tenths with its one decimal.
-#[tactic(auto, unfolding(crate::specs::Typing::typed, crate::specs::Decimal::tenths, crate::specs::Decimal::decimal, crate::specs::Decimal::upper_of, crate::specs::Decimal::lower_of))]
+#[tactic(auto, using(crate::specs::Typing::then_typed), unfolding(crate::specs::Decimal::tenths))]
 pub fn put_tenths(out: &mut [u8], at: usize, n: u32) -> usize
     ensures { (out.new, result) ≡ typed (tenths n) (out.old, at) }
 {
@@ -174,7 +150,7 @@ pub fn put_tenths(out: &mut [u8], at: usize, n: u32) -> usize
 }
 
 // A number of hundredths with both decimals.
-#[tactic(auto, unfolding(crate::specs::Typing::typed, crate::specs::Decimal::hundredths, crate::specs::Decimal::decimal, crate::specs::Decimal::upper_of, crate::specs::Decimal::lower_of))]
+#[tactic(auto, using(crate::specs::Typing::then_typed), unfolding(crate::specs::Decimal::hundredths))]
 pub fn put_hundredths(out: &mut [u8], at: usize, n: u32) -> usize
     ensures { (out.new, result) ≡ typed (hundredths n) (out.old, at) }
 {
@@ -203,8 +179,12 @@ pub fn put_refusal(out: &mut [u8], at: usize, why: Refusal) -> usize
 fn glyph(b: u8) -> u8
     ensures { result ≡ Hex·glyph (b % 16) }
 {
-    let d = b % 16;
-    choose8(d < 10, 0x30 + d, 0x57 + d)
+    let digit = b % 16;
+    if digit < 10 {
+        b'0' + digit
+    } else {
+        b'a' + (digit - 10)
+    }
 }
 
 // A byte's two digits.
@@ -221,17 +201,18 @@ pub fn put_hex(out: &mut [u8], at: usize, b: u8) -> usize
 pub fn put_pattern(out: &mut [u8], at: usize, bits: u32) -> usize
     ensures { (out.new, result) ≡ typed (pattern_of bits) (out.old, at) }
 {
-    let at = put_hex(out, at, (bits / 16777216) as u8);
-    let at = put_hex(out, at, (bits / 65536 % 256) as u8);
-    let at = put_hex(out, at, (bits / 256 % 256) as u8);
-    put_hex(out, at, (bits % 256) as u8)
+    let [first, second, third, last] = bits.to_be_bytes();
+    let at = put_hex(out, at, first);
+    let at = put_hex(out, at, second);
+    let at = put_hex(out, at, third);
+    put_hex(out, at, last)
 }
 
 // The bit pattern of x; for a NaN, which has many, 7fc00000.
 fn bits_of(x: f32) -> u32
     ensures { result ≡ to_bits binary32 x }
 {
-    if x == x { f32::to_bits(x) } else { 0x7fc0_0000 }
+    if x.is_nan() { 0x7fc0_0000 } else { x.to_bits() }
 }
 
 // The eight digits of a float's bit pattern, of 7fc00000 where it is not a number.
@@ -246,8 +227,10 @@ pub fn put_float(out: &mut [u8], at: usize, x: f32) -> usize
 pub fn hex_digit(b: u8) -> u8
     ensures { result ≡ hex_value b }
 {
-    let place = b as u16;
-    let letter = in_range(0x41, 0x46, place) | in_range(0x61, 0x66, place);
-    let other = choose8(letter, b % 16 + 9, 16);
-    choose8(in_range(0x30, 0x39, place), b % 16, other)
+    match b {
+        b'0'..=b'9' => b - b'0',
+        b'A'..=b'F' => b - b'A' + 10,
+        b'a'..=b'f' => b - b'a' + 10,
+        _ => 16,
+    }
 }

@@ -1,22 +1,13 @@
-use mathlib.Core.Path.{◌≡◌, refl, subst}
-use mathlib.Core.Bool.{true, false}
-use borrow.Author.Tests.{eq-eqb}
-use lib.Dec.{T}
-use lib.Ieee.{Float, nan, inf, fin, binary32, eq, to_bits, up, down}
-use Rattle.std.proofs.Common.{◌*◌}
+use mathlib.Core.Path.{◌≡◌, refl, ◌∙◌, sym}
+use mathlib.Core.Bool.{true}
+use lib.Ieee.{Float, nan, inf, fin, binary32, is_nan, to_bits}
 use Rattle.text.proofs.bits_of.Goals as goal
 
-unequal-nan : (x : Float) → eq x x ≡ false → x ≡ nan
-unfolding eq
-unequal-nan nan e = refl
-unequal-nan (inf true) e = absurd (subst T e tt)
-unequal-nan (inf false) e = absurd (subst T e tt)
-unequal-nan (fin true m d) e = absurd (subst T (rw (eq-eqb (m * up d * down d) (m * up d * down d) refl) at e) tt)
-unequal-nan (fin false m d) e = absurd (subst T (rw (eq-eqb (m * up d * down d) (m * up d * down d) refl) at e) tt)
+nan_bits : (x : Float) → is_nan x ≡ true → 0x7fc0_0000 ≡ to_bits binary32 x
+unfolding is_nan to_bits
+nan_bits nan e = refl
+nan_bits (inf s) e = cc
+nan_bits (fin s m d) e = cc
 
-nan-bits : (x : Float) → x ≡ nan → 0x7fc0_0000 ≡ to_bits binary32 x
-unfolding to_bits
-nan-bits x e = rw e
-
-pub returns-else-x : goal.returns-else-x
-returns-else-x c = nan-bits _ (unequal-nan _ c.if-x.false)
+pub returns-then-is_nan : goal.returns-then-is_nan
+returns-then-is_nan c = nan_bits _ (sym c.is_nan.ensures.value ∙ c.if-is_nan.true)

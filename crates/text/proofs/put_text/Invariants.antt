@@ -1,10 +1,6 @@
-use lib.ListN.{take}
-use Rattle.std.proofs.Common.{length, ◌-◌, ◌≡◌, ◌≤◌}
+use Rattle.std.proofs.Common.{◌≡◌, drop}
 use Rattle.text.specs.Typing.{typed}
 use Rattle.text.proofs.put_text.Given as goal
 
-abbrev pub invariant-loop-i : goal.invariant-loop-i
-invariant-loop-i l = (l.i ≤ length l.text) × (length l.out ≡ length l.initial.out) × ((l.out, l.place) ≡ typed (take l.i l.text) (l.initial.out, l.initial.place))
-
-abbrev pub decreases-loop-i : goal.decreases-loop-i
-decreases-loop-i l = length l.text - l.i
+abbrev pub invariant-loop-byte : goal.invariant-loop-byte
+invariant-loop-byte l = typed (drop l.byte-index l.text) (l.out, l.place) ≡ typed l.text (l.initial.out, l.initial.place)
