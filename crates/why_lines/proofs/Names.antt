@@ -5,6 +5,9 @@ use mathlib.Core.Bool.{Bool, true, false, ◌&&◌}
 use mathlib.Core.List.{List, [], ◌∷◌}
 use mathlib.Core.Logic.{◌↔◌}
 use lib.Dec.{eqb}
+use borrow.Author.Tests.{eq-eqb, eqb-true}
+use Rattle.std.specs.Prelude.{nat_eq}
+use Rattle.std.specs.Cmp.Lexicographic.{pointwise, same_text, other_text}
 use Rattle.leaf.specs.Choosing.{pick}
 use Rattle.signals.specs.declared.control.MainKind.{MainKind}
 use Rattle.signals.specs.declared.control.MainKind.TheVariants as main
@@ -105,3 +108,13 @@ sought_in s = name_sought (why_now s).reason s.desk.main.kind s.desk.beside.cros
 -- so what is compared is the name
 pub same_name : (a b : Session) → (place_in a ≡ place_in b) ↔ (name_in a ≡ name_in b)
 same_name a b = (λ e. named_in a ∙ ap (word_of names) e ∙ sym (named_in b), λ e. sym (sought_in a) ∙ ap (sought 18) e ∙ sought_in b)
+
+-- and what tells two names apart tells their places apart
+pub same_test : (a b : Session) → pointwise nat_eq (name_in a) (name_in b) ≡ eqb (place_in a) (place_in b)
+same_test a b = decide (pointwise nat_eq (name_in a) (name_in b)) (eqb (place_in a) (place_in b)) refl refl
+  where
+    decide : (names places : Bool) → pointwise nat_eq (name_in a) (name_in b) ≡ names → eqb (place_in a) (place_in b) ≡ places → names ≡ places
+    decide true true n p = refl
+    decide false false n p = refl
+    decide true false n p = sym (eq-eqb _ _ ((same_name a b).1 (same_text _ _ (sym n)))) ∙ p
+    decide false true n p = absurd (other_text _ _ (sym n) ((same_name a b).0 (eqb-true _ _ p)))

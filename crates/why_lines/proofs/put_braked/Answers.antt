@@ -1,7 +1,9 @@
-use Rattle.why_lines.specs.Words.{braked_text}
 use Rattle.text.specs.Typing.{then_typed}
+use Rattle.why_lines.specs.Words.{braked_text}
 use Rattle.why_lines.proofs.put_braked.Goals as goal
 
 pub returns : goal.returns
 unfolding braked_text
-returns c = then_typed _ _ _ (then_typed _ _ _ (then_typed _ _ _ c.put_text-at.ensures c.put_tenths-at.ensures) c.put_text-at-2.ensures) c.put_cause.ensures
+returns c =
+    then_typed _ _ _ (then_typed _ _ _ (then_typed _ _ _ c.put_text-at.ensures (rw c.into.ensures at c.put_tenths-at.ensures)) c.put_text-at-2.ensures)
+    (rw c.cause_name.ensures at c.put_text.ensures)
