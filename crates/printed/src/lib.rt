@@ -9,20 +9,15 @@ ghost use Rattle.session.specs.Session.{opened_of};
 ghost use Rattle.text.specs.Decimal.{line};
 ghost use Rattle.text.specs.Typing.{typed};
 ghost use Rattle.step.specs.Reason.{reason_number};
-ghost use Rattle.printed.specs.Printed.{heading, heading_of, refused_line, flag_of, columns_of, shown_text, reason_text, turn_text, lines_of, started_text, card_text, start_on, printed_as};
+ghost use Rattle.printed.specs.Printed.{heading, heading_of, refused_line, columns_of, shown_text, reason_text, turn_text, lines_of, started_text, card_text, start_on, printed_as};
 
 use card::{Found, card_in};
-use leaf::choose32;
 use rides::recording::samples;
 use rides::ride::{Ride, Shown, number_of, start};
 use session::Opened;
 use step::Answer;
 use step::speed::{Reason, reason_number};
 use text::{put_ended, put_text};
-
-const BLANK: u8 = 0x20;
-
-const NEWLINE: u8 = 0x0A;
 
 // The highest version of a card that is read.
 pub const HIGHEST: u8 = 3;
@@ -64,31 +59,27 @@ pub fn put_refused(out: &mut [u8], at: usize, number: u8) -> usize
     ensures { (out.new, result) ≡ typed (refused_line number) (out.old, at) }
 {
     let at = put_text(out, at, b"refused ");
-    put_ended(out, at, number as u32, NEWLINE)
+    put_ended(out, at, number.into(), b'\n')
 }
 
-fn flag(b: bool) -> u32
-    ensures { result ≡ flag_of b }
-{
-    choose32(b, 1, 0)
-}
-
+#[tactic(auto, using(text::specs::Typing::then_typed))]
 fn put_answer(columns: Columns, out: &mut [u8], at: usize, number: u32, a: Answer) -> usize
     ensures { (out.new, result) ≡ typed (line number (columns_of columns a)) (out.old, at) }
 {
-    let at = put_ended(out, at, number, BLANK);
-    let at = put_ended(out, at, a.speed, BLANK);
-    let at = put_ended(out, at, a.lamps as u32, BLANK);
+    let at = put_ended(out, at, number, b' ');
+    let at = put_ended(out, at, a.speed, b' ');
+    let at = put_ended(out, at, a.lamps.into(), b' ');
     match columns {
-        Columns::Paper => put_ended(out, at, a.cause as u32, NEWLINE),
+        Columns::Paper => put_ended(out, at, a.cause.into(), b'\n'),
         Columns::Whole => {
-            let at = put_ended(out, at, a.cause as u32, BLANK);
-            let at = put_ended(out, at, a.icon as u32, BLANK);
-            put_ended(out, at, flag(a.limit), NEWLINE)
+            let at = put_ended(out, at, a.cause.into(), b' ');
+            let at = put_ended(out, at, a.icon.into(), b' ');
+            put_ended(out, at, a.limit.into(), b'\n')
         }
     }
 }
 
+#[tactic(auto, unfolding(crate::specs::Printed::shown_text, text::specs::Typing::typed))]
 pub fn put_shown(columns: Columns, out: &mut [u8], at: usize, number: u32, shown: Shown) -> usize
     ensures { (out.new, result) ≡ typed (shown_text columns number shown) (out.old, at) }
 {
@@ -99,16 +90,18 @@ pub fn put_shown(columns: Columns, out: &mut [u8], at: usize, number: u32, shown
     }
 }
 
+#[tactic(auto, using(text::specs::Typing::then_typed))]
 fn put_reason(out: &mut [u8], at: usize, number: u32, a: Answer, reason: Reason) -> usize
     ensures { (out.new, result) ≡ typed (line number (a.speed ∷ a.lamps ∷ a.cause ∷ reason_number reason ∷ [])) (out.old, at) }
 {
-    let at = put_ended(out, at, number, BLANK);
-    let at = put_ended(out, at, a.speed, BLANK);
-    let at = put_ended(out, at, a.lamps as u32, BLANK);
-    let at = put_ended(out, at, a.cause as u32, BLANK);
-    put_ended(out, at, reason_number(reason) as u32, NEWLINE)
+    let at = put_ended(out, at, number, b' ');
+    let at = put_ended(out, at, a.speed, b' ');
+    let at = put_ended(out, at, a.lamps.into(), b' ');
+    let at = put_ended(out, at, a.cause.into(), b' ');
+    put_ended(out, at, reason_number(reason).into(), b'\n')
 }
 
+#[tactic(auto, unfolding(crate::specs::Printed::reason_text, text::specs::Typing::typed))]
 fn put_reasoned(out: &mut [u8], at: usize, number: u32, shown: Shown, reason: Reason) -> usize
     ensures { (out.new, result) ≡ typed (reason_text number shown reason) (out.old, at) }
 {
@@ -119,6 +112,7 @@ fn put_reasoned(out: &mut [u8], at: usize, number: u32, shown: Shown, reason: Re
     }
 }
 
+#[tactic(auto, unfolding(crate::specs::Printed::turn_text))]
 fn put_turned(
     form: Form,
     out: &mut [u8],
@@ -135,22 +129,19 @@ fn put_turned(
     }
 }
 
-// The lines of the first n samples.
+// The lines of the first n samples. The loop of `printed_why` has this one's first and last line alone in common: it asks for no reason, and
+// types by the sessions before and after. A closure for what lies between would hide both.
 fn put_lines(form: Form, ride: Ride, recording: &[u8], n: u16, out: &mut [u8], at: usize) -> usize
     ensures { (out.new, result) ≡ typed (lines_of form ride recording.now n) (out.old, at) }
 {
     let mut place = at;
     let mut going = ride;
-    let mut k: u16 = 0;
-    while k < n {
+    for k in 0..n {
         let explained = going.turn_asking_at(recording, k);
         let turned = explained.turned;
-        let why = explained.why;
-        let shown = turned.shown;
-        let reason = why.reason;
-        place = put_turned(form, out, place, (k as u32) + 1, shown, reason);
+        let number = u32::from(k) + 1;
+        place = put_turned(form, out, place, number, turned.shown, explained.why.reason);
         going = turned.ride;
-        k += 1;
     }
     place
 }
@@ -183,13 +174,13 @@ fn put_read(form: Form, found: Found, recording: &[u8], n: u16, out: &mut [u8], 
     }
 }
 
+#[tactic(auto, unfolding(crate::specs::Printed::printed_as), using(text::specs::Typing::then_typed, crate::proofs::Texts::capped))]
 fn put_ride(form: Form, card: &[u8], recording: &[u8], out: &mut [u8]) -> usize
     ensures { (out.new, result) ≡ typed (printed_as form card.now recording.now) (out.old, 0) }
 {
     let at = put_form_heading(form, out, 0);
     let found = card_in(card, HIGHEST);
-    let n = samples(recording);
-    put_read(form, found, recording, n, out, at)
+    put_read(form, found, recording, samples(recording), out, at)
 }
 
 // The session that the recording starts on this card, or the refusal of the reader or of the start.
