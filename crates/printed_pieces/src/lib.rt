@@ -68,6 +68,7 @@ pub struct Printed {
     pub length: usize,
 }
 
+#[tactic(auto, unfolding(crate::specs::Pieces::piece_text, receiver::specs::Receiver::received_all, text::specs::Typing::typed))]
 fn put_piece(
     columns: Columns,
     receiver: Receiver,
@@ -80,14 +81,11 @@ fn put_piece(
 {
     let mut place = at;
     let mut going = receiver;
-    let mut i = 0;
-    while i < piece.len() {
+    for &byte in piece {
         let number = (going.taken / 6) as u32;
-        let received = going.take(piece[i]);
-        let shown = received.shown;
-        place = put_shown(columns, out, place, number, shown);
+        let received = going.take(byte);
+        place = put_shown(columns, out, place, number, received.shown);
         going = received.receiver;
-        i += 1;
     }
     Printed {
         receiver: going,
@@ -107,18 +105,17 @@ pub fn print_piece(columns: Columns, receiver: Receiver, piece: &[u8], out: &mut
     put_piece(columns, receiver, piece, out, 0)
 }
 
+#[tactic(auto, unfolding(crate::specs::Pieces::end_text, receiver::specs::Receiver::end_of))]
 fn put_end(columns: Columns, receiver: Receiver, out: &mut [u8], at: usize) -> Printed
     ensures receiver_value { result.receiver ≡ (end_of receiver).receiver }
     ensures length_after { (out.new, result.length) ≡ typed (end_text columns receiver) (out.old, at) }
 {
     let number = (receiver.taken / 6) as u32;
     let received = receiver.end();
-    let shown = received.shown;
-    let after = received.receiver;
-    let place = put_shown(columns, out, at, number, shown);
+    let length = put_shown(columns, out, at, number, received.shown);
     Printed {
-        receiver: after,
-        length: place,
+        receiver: received.receiver,
+        length,
     }
 }
 
