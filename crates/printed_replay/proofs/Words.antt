@@ -11,7 +11,7 @@ use borrow.Author.Tests.{lt-ltb, le-ltb}
 use Rattle.leaf.specs.Choosing.{and_split}
 use Rattle.text.specs.Hex.{hex_value}
 use Rattle.printed_replay.specs.Word.{most_quota, is_digit, all_digits, is_number, value_behind, value_of, quota_in}
-use Rattle.printed_replay.specs.declared.Quota.TheVariants.{None, Number}
+use Rattle.std.specs.Prelude.{Some, None}
 
 -- where there is a byte, all of them decide
 is_number_lem : (word : List ℕ) → 0 < length word → is_number word ≡ all_digits word
@@ -34,7 +34,7 @@ value_append n (b ∷ p) q = value_append (n * 10 + hex_value b) p q
 cut_off : (v d : ℕ) → min (min v most_quota * 10 + d) most_quota ≡ min (v * 10 + d) most_quota
 cut_off v d = omega arith
 
-no_word : (word : List ℕ) → length word ≤ 0 → None ≡ quota_in word
+pub no_word : (word : List ℕ) → length word ≤ 0 → None ≡ quota_in word
 unfolding quota_in
 no_word [] h = refl
 no_word (b ∷ word) h = absurd (omega arith)
@@ -69,11 +69,8 @@ module _ (word : List ℕ) (i n : ℕ) (said : Said word i n) where
       rw (is_number_lem word (omega arith), bad)
 
   -- at the word's end
-  pub whole : 0 < i → length word ≤ i → Number n ≡ quota_in word
+  pub whole : 0 < i → length word ≤ i → Some n ≡ quota_in word
   unfolding quota_in
   whole some end =
       let all = take_all i word end in
       rw (is_number_lem word (omega arith), ← all, said.digits, said.number)
-
-  pub empty : i ≡ 0 → length word ≤ i → None ≡ quota_in word
-  empty none end = no_word word (omega arith)

@@ -1,9 +1,7 @@
 -- A quota as a word: a decimal number in digits alone, of any size. Zeros before it count for nothing.
-use Rattle.std.specs.Prelude.{ℕ, ◌+◌, ◌*◌, min, Bool, true, false, ◌&&◌, List, [], ◌∷◌, ltb}
+use Rattle.std.specs.Prelude.{ℕ, ◌+◌, ◌*◌, min, Bool, true, false, ◌&&◌, List, [], ◌∷◌, ltb, Option, Some, None}
 use Rattle.leaf.specs.Choosing.{pick}
 use Rattle.text.specs.Hex.{hex_value}
-use Rattle.printed_replay.specs.declared.Quota.{Quota}
-use Rattle.printed_replay.specs.declared.Quota.TheVariants.{None, Number}
 
 -- the greatest quota. "Place, quota and their sums never wrap." (d7): a number above it counts as it, and is the same quota, since no recording
 -- has as many samples
@@ -30,5 +28,5 @@ value_behind n (b ∷ word) = value_behind (n * 10 + hex_value b) word
 abbrev pub value_of : List ℕ → ℕ
 value_of word = value_behind 0 word
 
-unfoldable pub quota_in : List ℕ → Quota
-quota_in word = pick (is_number word) (Number (min (value_of word) most_quota)) None
+unfoldable pub quota_in : List ℕ → Option ℕ
+quota_in word = pick (is_number word) (Some (min (value_of word) most_quota)) None

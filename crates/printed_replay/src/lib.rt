@@ -19,10 +19,6 @@ use rides::ride::{Shown, number_of};
 use session::{Opened, Session};
 use text::{hex_digit, put_ended, put_labelled, put_text};
 
-const BLANK: u8 = 0x20;
-
-const NEWLINE: u8 = 0x0A;
-
 // ---- the start
 
 fn put_heading(out: &mut [u8], at: usize) -> usize
@@ -80,38 +76,37 @@ pub fn print_start(card: &[u8], recording: &[u8], out: &mut [u8]) -> Begun
 
 // ---- a quota
 
+#[tactic(auto, unfolding(crate::specs::Quotas::ran_line, text::specs::Typing::typed, printed::specs::Printed::shown_text), using(text::specs::Typing::then_typed))]
 fn put_ran(out: &mut [u8], at: usize, place: u16, ran: u16, last: Last) -> usize
     ensures { (out.new, result) ≡ typed (ran_line place ran last) (out.old, at) }
 {
-    let at = put_ended(out, at, place as u32, BLANK);
+    let at = put_ended(out, at, place.into(), b' ');
     match last {
-        Last::Answered(a) => put_shown(Columns::Whole, out, at, ran as u32, Shown::Answered(a)),
+        Last::Answered(a) => put_shown(Columns::Whole, out, at, ran.into(), Shown::Answered(a)),
         Last::None => {
-            let at = put_ended(out, at, ran as u32, BLANK);
+            let at = put_ended(out, at, ran.into(), b' ');
             put_text(out, at, b"none\n")
         }
     }
 }
 
+#[tactic(auto, unfolding(crate::specs::Quotas::refused_at_line, text::specs::Typing::typed), using(text::specs::Typing::then_typed))]
 fn put_refused_at(out: &mut [u8], at: usize, number: u8, position: u16) -> usize
     ensures { (out.new, result) ≡ typed (refused_at_line number position) (out.old, at) }
 {
-    let at = put_labelled(out, at, b"refused ", number as u32);
+    let at = put_labelled(out, at, b"refused ", number.into());
     let at = put_text(out, at, b" at ");
-    put_ended(out, at, position as u32, NEWLINE)
+    put_ended(out, at, position.into(), b'\n')
 }
 
 fn is_refused(end: End) -> bool
     ensures { result ≡ is_refused end }
 {
-    match end {
-        End::Unrefused => false,
-        End::Refused(_) => true,
-        End::RefusedAt(_, _) => true,
-    }
+    matches!(end, End::Refused(_) | End::RefusedAt(_, _))
 }
 
 // The lines of a replay that began at this place.
+#[tactic(auto, unfolding(crate::specs::Quotas::replayed_text), using(text::specs::Typing::then_typed))]
 fn put_replayed(out: &mut [u8], at: usize, place: u16, ran: u16, last: Last, end: End) -> usize
     ensures { (out.new, result) ≡ typed (replayed_text place ran last end) (out.old, at) }
 {
@@ -135,7 +130,7 @@ pub struct Printed {
     pub length: usize,
 }
 
-#[tactic(auto, using(crate::proofs::ReplayTexts::place_fits))]
+#[tactic(auto, unfolding(crate::specs::Quotas::quota_text), using(crate::proofs::ReplayTexts::place_fits))]
 fn put_quota(
     recording: &[u8],
     place: u16,
@@ -149,17 +144,13 @@ fn put_quota(
     ensures is_over_value { result.is_over ≡ is_refused (replay_of recording.now place session quota).end }
     ensures length_after { (out.new, result.length) ≡ typed (quota_text recording.now place session quota) (out.old, at) }
 {
-    let replayed = replay(recording, place as u64, session, quota);
-    let after = replayed.session;
-    let last = replayed.last;
-    let end = replayed.end;
-    let ran = replayed.ran;
-    let length = put_replayed(out, at, place, ran, last, end);
+    let replayed = replay(recording, place.into(), session, quota);
+    let length = put_replayed(out, at, place, replayed.ran, replayed.last, replayed.end);
     Printed {
-        session: after,
-        place: place + ran,
-        is_over: is_refused(end),
-        length: length,
+        session: replayed.session,
+        place: place + replayed.ran,
+        is_over: is_refused(replayed.end),
+        length,
     }
 }
 
@@ -187,43 +178,29 @@ pub fn print_quota(
 
 // ---- a quota as a word
 
-// What a word says: a quota, or none.
-#[derive(Clone, Copy)]
-pub enum Quota {
-    None,
-    Number(u64),
-}
-
 // A number with one more digit behind it, or the greatest where that is above it.
 fn next_quota(n: u64, digit: u8) -> u64
     ensures { result ≡ min (n * 10 + digit) most_quota }
 {
-    let d = digit as u64;
-    if n <= (u64::MAX - d) / 10 {
-        n * 10 + d
-    } else {
-        u64::MAX
-    }
+    n.saturating_mul(10).saturating_add(digit.into())
 }
 
 // The quota that a word says: a decimal number in digits alone, of any size. Zeros before it count for nothing; one above
 // 18446744073709551615 counts as that one, which is the same quota, since no recording has as many samples. An empty word, or
 // one with any other byte, says none.
-pub fn quota_in(word: &[u8]) -> Quota
+pub fn quota_in(word: &[u8]) -> Option<u64>
     ensures { result ≡ quota_in word.now }
 {
-    let mut n: u64 = 0;
-    let mut i = 0;
-    while i < word.len() {
-        let digit = hex_digit(word[i]);
+    if word.is_empty() {
+        return None;
+    }
+    let mut quota = 0;
+    for &byte in word {
+        let digit = hex_digit(byte);
         if digit > 9 {
-            return Quota::None;
+            return None;
         }
-        n = next_quota(n, digit);
-        i += 1;
+        quota = next_quota(quota, digit);
     }
-    if i == 0 {
-        return Quota::None;
-    }
-    Quota::Number(n)
+    Some(quota)
 }

@@ -12,7 +12,7 @@
 
 ghost use Rattle.std.specs.Prelude.{◌≤◌, length};
 
-use printed_replay::{Quota, print_heading, print_quota, print_start, quota_in};
+use printed_replay::{print_heading, print_quota, print_start, quota_in};
 use ride_shell::{Below, card_under};
 use session::{Opened, Session};
 use shell::System;
@@ -23,16 +23,16 @@ const FIRST_QUOTA: usize = 2;
 // ---- QUOTA..
 
 // What the argument of this number says. One of more than 4,096 bytes is not handed out, and says none.
-fn quota_said(rt: &impl System, argument: usize) -> Quota {
+fn quota_said(rt: &impl System, argument: usize) -> Option<u64> {
     let mut word = [0u8; 4096];
     let n = shell::argument(rt, argument, &mut word);
     quota_in(&word[..n])
 }
 
-fn is_number(quota: Quota) -> bool {
+fn is_number(quota: Option<u64>) -> bool {
     match quota {
-        Quota::Number(_) => true,
-        Quota::None => false,
+        Some(_) => true,
+        None => false,
     }
 }
 
@@ -80,8 +80,8 @@ fn say_said(
 ) -> Turn {
     let quota = quota_said(rt, argument);
     match quota {
-        Quota::Number(n) => say_quota(rt, recording, place, session, n),
-        Quota::None => Turn {
+        Some(n) => say_quota(rt, recording, place, session, n),
+        None => Turn {
             session,
             place,
             goes_on: false,

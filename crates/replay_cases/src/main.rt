@@ -16,7 +16,7 @@ use card::{Found, card_in};
 use case_lines::{behind, unhex};
 use leaf::{byte_at, choose32};
 use printed::{HIGHEST, put_refused};
-use printed_replay::{Quota, quota_in};
+use printed_replay::quota_in;
 use rides::recording::samples;
 use rides::replay::{End, Last, Replayed, replay};
 use rides::ride::number_of;
@@ -48,8 +48,8 @@ fn digits_end(text: &[u8], from: usize) -> usize {
 fn number_said(word: &[u8]) -> u64 {
     let quota = quota_in(word);
     match quota {
-        Quota::Number(n) => n,
-        Quota::None => 0,
+        Some(n) => n,
+        None => 0,
     }
 }
 
