@@ -38,6 +38,7 @@ fn put_why_heading(telling: Telling, out: &mut [u8], at: usize) -> usize
 }
 
 // Of an answered sample with the session before it and the one after it.
+#[tactic(auto, unfolding(crate::specs::PrintedWhy::telling_text))]
 fn put_told(
     telling: Telling,
     out: &mut [u8],
@@ -49,14 +50,12 @@ fn put_told(
     ensures { (out.new, result) ≡ typed (telling_text telling number before after) (out.old, at) }
 {
     match telling {
-        Telling::Line => {
-            let why = after.why_now();
-            put_why(out, at, number, why)
-        }
+        Telling::Line => put_why(out, at, number, after.why_now()),
         Telling::Words => put_words(out, at, number, before, after),
     }
 }
 
+#[tactic(auto, unfolding(crate::specs::PrintedWhy::reason_text, text::specs::Typing::typed))]
 fn put_reasoned(
     telling: Telling,
     out: &mut [u8],
@@ -77,7 +76,8 @@ fn put_reasoned(
 
 // ---- the ride
 
-// The lines of the first n samples.
+// The lines of the first n samples. The loop of `printed` has this one's first and last line alone in common: it asks for the reason, and types
+// by the answer. A closure for what lies between would hide both.
 fn put_lines(
     telling: Telling,
     ride: Ride,
@@ -90,15 +90,13 @@ fn put_lines(
 {
     let mut place = at;
     let mut going = ride;
-    let mut k: u16 = 0;
-    while k < n {
+    for k in 0..n {
         let turned = going.turn_at(recording, k);
         let before = going.session;
         let after = turned.ride.session;
-        let shown = turned.shown;
-        place = put_reasoned(telling, out, place, (k as u32) + 1, before, after, shown);
+        let number = u32::from(k) + 1;
+        place = put_reasoned(telling, out, place, number, before, after, turned.shown);
         going = turned.ride;
-        k += 1;
     }
     place
 }
@@ -119,13 +117,13 @@ fn put_started(
     }
 }
 
+#[tactic(auto, unfolding(crate::specs::PrintedWhy::printed_why), using(text::specs::Typing::then_typed, crate::proofs::WhyTexts::capped))]
 fn put_ride(telling: Telling, card: &[u8], recording: &[u8], out: &mut [u8]) -> usize
     ensures { (out.new, result) ≡ typed (printed_why telling card.now recording.now) (out.old, 0) }
 {
     let at = put_why_heading(telling, out, 0);
     let opened = start_on(card, recording);
-    let n = samples(recording);
-    put_started(telling, opened, recording, n, out, at)
+    put_started(telling, opened, recording, samples(recording), out, at)
 }
 
 // The heading, at the buffer's start; in words there is none. Answers how many bytes of it the buffer now holds; the rest is as it was.
