@@ -222,7 +222,8 @@ pub fn put_float(out: &mut [u8], at: usize, x: f32) -> usize
     put_pattern(out, at, bits_of(x))
 }
 
-// The value of a hexadecimal digit in either case, 16 for any other byte.
+// The value of a hexadecimal digit in either case, 16 for any other byte: not an `Option`, since `hex_value`, by which `case_lines` and
+// `printed_replay` say what they read, has that number.
 #[tactic(auto, unfolding(crate::specs::Hex::hex_value))]
 pub fn hex_digit(b: u8) -> u8
     ensures { result ≡ hex_value b }
