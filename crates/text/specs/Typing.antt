@@ -96,13 +96,3 @@ held t l s e =
       inside = i;
       part = sym (length-take-le s.1 s.0 i);
     }
-
--- each of these by itself
-pub typed_count : (t l : List ℕ) {after : List ℕ} {count : ℕ} → (after, count) ≡ typed t (l, 0) → count ≡ min (length t) (length l)
-typed_count t l e = (held t l _ e).counted
-
-pub typed_bytes : (t l : List ℕ) {after : List ℕ} {count : ℕ} → (after, count) ≡ typed t (l, 0) → after ≡ over (length t) t l
-typed_bytes t l e = (held t l _ e).bytes
-
-pub typed_inside : (t l : List ℕ) {after : List ℕ} {count : ℕ} → (after, count) ≡ typed t (l, 0) → count ≤ length after
-typed_inside t l e = (held t l _ e).inside
