@@ -8,160 +8,125 @@
 // All that is printed is a text of `printed_pieces`. The bytes read and written are the system's, of which no contract speaks.
 #![tactic(auto)]
 
-ghost use Rattle.std.specs.Prelude.{◌≡◌, length};
-ghost use Rattle.receive.specs.Size.{next_size, size_in};
+ghost use Rattle.std.specs.Prelude.{◌≡◌, ◌<◌, ◌≤◌, IfSome, IfNone, length};
+ghost use Rattle.receive.specs.Size.{next_size, no_size, size_in};
 
-use printed::{Columns, Form};
+use printed::{Columns, Form, print_heading};
 use printed_pieces::{Printed, print_end, print_piece, print_start};
 use receiver::{Receiver, Started, Status};
-use shell::System;
+use ride_shell::{CARD_ROOM, card_under, word_behind_card};
+use shell::{Failure, System, failed, room, say};
 use text::hex_digit;
+
+const USAGE: &[u8] = b"usage: receive CARD [SIZE] < LINE\n";
 
 const DEFAULT_SIZE: u16 = 64;
 
-const NO_SIZE: u16 = 4097;
+const MOST_SIZE: u16 = 4096;
 
 // The lines of a piece of 4,096 bytes: at most 66 bytes for each six begun and 66 for a refusal's (proofs/Room.antt).
 const TEXT_ROOM: usize = 45144;
 
 // ---- SIZE
 
-fn next_size(n: u16, b: u8) -> u16
-    ensures { result ≡ next_size n b }
+// The number with one more digit behind it; none where that is no digit, or more than any size.
+fn next_size(n: u16, b: u8) -> Option<u16>
+    ensures some { IfSome result (λ next. (next ≡ next_size n b) × (next ≤ 4096)) }
+    ensures none { IfNone result (next_size n b ≡ no_size) }
 {
     let digit = hex_digit(b);
-    let more = (n as u32) * 10 + (digit as u32);
-    if digit < 10 {
-        if more < NO_SIZE as u32 {
-            return more as u16;
-        }
+    let more = u32::from(n) * 10 + u32::from(digit);
+    if digit < 10 && more <= u32::from(MOST_SIZE) {
+        Some(more as u16)
+    } else {
+        None
     }
-    NO_SIZE
 }
 
-// The size that the word says, 0 where it says none.
-fn size_in(word: &[u8]) -> u16
-    ensures { result ≡ size_in word.now }
+// The size that the word says, where it says one.
+fn size_in(word: &[u8]) -> Option<u16>
+    ensures some { IfSome result (λ size. (size ≡ size_in word.now) × (0 < size)) }
+    ensures none { IfNone result (size_in word.now ≡ 0) }
 {
-    let mut n: u16 = 0;
-    let mut i = 0;
-    while i < word.len() {
-        n = next_size(n, word[i]);
-        i += 1;
+    let mut n = 0;
+    for digit in word {
+        n = next_size(n, *digit)?;
     }
-    if n < NO_SIZE { n } else { 0 }
+    (n > 0).then_some(n)
 }
 
-// The size that the second argument says, 0 where it says none. One of more than four bytes is not handed out.
-fn size_said(rt: &impl System) -> u16 {
-    let mut word = [0u8; 4];
-    let n = shell::argument(rt, 2, &mut word);
-    size_in(&word[..n])
-}
-
-// The size asked for, 0 where the arguments are not those of the usage.
-fn size_asked(rt: &impl System) -> u16 {
-    let arguments = shell::argument_count(rt);
-    match arguments {
-        2 => DEFAULT_SIZE,
-        3 => size_said(rt),
-        _ => 0,
+// The size asked for. A word of more than four bytes is not handed out, and says none.
+fn size_asked(rt: &impl System) -> Result<u16, Failure> {
+    let mut space = [0; 4];
+    match word_behind_card(rt, USAGE, &mut space)? {
+        None => Ok(DEFAULT_SIZE),
+        Some(word) => size_in(word).ok_or_else(|| failed(rt, USAGE)),
     }
 }
 
 // ---- the line
 
-// Room for the text. It ensures its length, which lending needs: a check that counts the zeros takes seconds.
-fn text_room() -> [u8; TEXT_ROOM]
-    ensures { 45144 ≡ length result }
-{
-    [0; TEXT_ROOM]
-}
-
-// The receiver, and whether more is to be read for it.
-#[derive(Clone, Copy)]
-struct Turn {
-    receiver: Receiver,
-    goes_on: bool,
-}
-
-fn is_open(status: Status) -> bool {
-    match status {
-        Status::Open => true,
-        Status::Ended => false,
-        Status::Refused(_) => false,
-    }
-}
-
 // What a piece shows; one without bytes is the line's end.
-fn printed_of(receiver: Receiver, piece: &[u8], text: &mut [u8]) -> Printed {
-    if piece.len() == 0 {
+fn printed_of(receiver: Receiver, piece: &[u8], text: &mut [u8]) -> Printed
+    ensures { result.length ≤ length text.new }
+{
+    if piece.is_empty() {
         return print_end(Columns::Paper, receiver, text);
     }
     print_piece(Columns::Paper, receiver, piece, text)
 }
 
-fn say_piece(rt: &impl System, receiver: Receiver, piece: &[u8], text: &mut [u8]) -> Turn {
+// One read, and what it shows: the receiver behind it.
+fn one_read(
+    rt: &impl System,
+    receiver: Receiver,
+    size: u16,
+    text: &mut [u8],
+) -> Result<Receiver, Failure> {
+    let mut space = [0; 4096];
+    let piece = shell::read_piece(rt, usize::from(size), &mut space)?;
     let printed = printed_of(receiver, piece, text);
-    let after = printed.receiver;
-    let status = after.status;
-    let is_said = shell::say_first(rt, text, printed.length);
-    Turn {
-        receiver: after,
-        goes_on: is_said & is_open(status),
-    }
+    say(rt, &text[..printed.length])?;
+    Ok(printed.receiver)
 }
 
-// One read, and what it shows.
-fn one_read(rt: &impl System, receiver: Receiver, size: u16, text: &mut [u8]) -> Turn {
-    let mut space = [0u8; 4096];
-    let piece = shell::read_piece(rt, size as usize, &mut space);
-    if !piece.is_read {
-        return Turn {
-            receiver,
-            goes_on: false,
-        };
-    }
-    let n = piece.length;
-    say_piece(rt, receiver, &space[..n], text)
-}
-
-// Nothing says that a line ends, so the reads are counted down from a number that no line uses up.
-fn receive(rt: &impl System, receiver: Receiver, size: u16, text: &mut [u8]) {
+// Nothing says that a line ends, so the reads are counted, up to a number that no line uses up.
+fn receive(
+    rt: &impl System,
+    receiver: Receiver,
+    size: u16,
+    text: &mut [u8],
+) -> Result<(), Failure> {
     let mut going = receiver;
-    let mut left = u64::MAX;
-    while left > 0 {
-        let next = one_read(rt, going, size, text);
-        if !next.goes_on {
-            return;
+    for _ in 0..u64::MAX {
+        going = one_read(rt, going, size, text)?;
+        match going.status {
+            Status::Open => {}
+            Status::Ended | Status::Refused(_) => break,
         }
-        going = next.receiver;
-        left -= 1;
     }
+    Ok(())
 }
 
-// The start on this card, below the heading of h bytes, and then the line.
-fn say_below(rt: &impl System, card: &[u8], h: usize, size: u16) {
-    let mut text = text_room();
+// The heading and below it the start on the card, and then the line.
+fn print(rt: &impl System) -> Result<(), Failure> {
+    let size = size_asked(rt)?;
+    let mut space = [0; 64];
+    let h = print_heading(Form::Answers(Columns::Paper), &mut space);
+    let heading = &space[..h];
+    let mut space = [0; CARD_ROOM];
+    let card = card_under(rt, heading, &mut space)?;
+    let mut text = room::<TEXT_ROOM>();
     let begun = print_start(Columns::Paper, card, &mut text);
-    shell::say_part(rt, &text, h, begun.length);
-    let started = begun.started;
-    match started {
+    let start = &text[..begun.length];
+    say(rt, start.strip_prefix(heading).unwrap_or_default())?;
+    match begun.started {
         Started::Ready(receiver) => receive(rt, receiver, size, &mut text),
-        Started::Refused(_) => (),
+        Started::Refused(_) => Ok(()),
     }
 }
 
+// A failure has been told; the status stays 0, since the commands at the root make it of what is printed.
 fn main(rt: HostRuntime) {
-    let size = size_asked(&rt);
-    if size == 0 {
-        shell::warn(&rt, b"usage: receive CARD [SIZE] < LINE\n");
-        return;
-    }
-    let mut space = [0u8; 4096];
-    let card = ride_shell::card_below(&rt, Form::Answers(Columns::Paper), &mut space);
-    let n = card.length;
-    if card.is_read {
-        say_below(&rt, &space[..n], card.heading, size);
-    }
+    let _ = print(&rt);
 }

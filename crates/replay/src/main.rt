@@ -10,12 +10,12 @@
 // and written are the system's, of which no contract speaks.
 #![tactic(auto)]
 
-ghost use Rattle.std.specs.Prelude.{◌≤◌, length};
-
 use printed_replay::{print_heading, print_quota, print_start, quota_in};
-use ride_shell::{Below, card_under};
+use ride_shell::{CARD_ROOM, card_under, recording_room};
 use session::{Opened, Session};
-use shell::System;
+use shell::{Failure, System, argument, failed, say};
+
+const USAGE: &[u8] = b"usage: replay CARD QUOTA.. < RECORDING\n";
 
 // The first argument names the card, the quotas stand behind it.
 const FIRST_QUOTA: usize = 2;
@@ -23,125 +23,71 @@ const FIRST_QUOTA: usize = 2;
 // ---- QUOTA..
 
 // What the argument of this number says. One of more than 4,096 bytes is not handed out, and says none.
-fn quota_said(rt: &impl System, argument: usize) -> Option<u64> {
-    let mut word = [0u8; 4096];
-    let n = shell::argument(rt, argument, &mut word);
-    quota_in(&word[..n])
+fn quota_said(rt: &impl System, number: usize) -> Option<u64> {
+    let mut space = [0; 4096];
+    quota_in(argument(rt, number, &mut space))
 }
 
-fn is_number(quota: Option<u64>) -> bool {
-    match quota {
-        Some(_) => true,
-        None => false,
+// How many arguments there are, the program's name being one. There is to be a card, and behind it quotas, all of them numbers.
+fn arguments_asked(rt: &impl System) -> Result<usize, Failure> {
+    let arguments = shell::argument_count(rt);
+    let are_numbers = (FIRST_QUOTA..arguments).all(|number| quota_said(rt, number).is_some());
+    if FIRST_QUOTA < arguments && are_numbers {
+        Ok(arguments)
+    } else {
+        Err(failed(rt, USAGE))
     }
-}
-
-// Are there a card and quotas among so many arguments, the program's name being one, and all quotas numbers.
-fn is_asked(rt: &impl System, arguments: usize) -> bool {
-    let mut argument = FIRST_QUOTA;
-    while argument < arguments {
-        if !is_number(quota_said(rt, argument)) {
-            return false;
-        }
-        argument += 1;
-    }
-    FIRST_QUOTA < arguments
 }
 
 // ---- the replay
 
-// The session and the place after a quota, and whether the next one is to be run.
-#[derive(Clone, Copy)]
-struct Turn {
-    session: Session,
-    place: u16,
-    goes_on: bool,
-}
-
-// A quota of samples from this place on, and its lines, in full: none has more than 110 bytes (proofs/Room.antt).
-fn say_quota(rt: &impl System, recording: &[u8], place: u16, session: Session, quota: u64) -> Turn {
-    let mut text = [0u8; 4096];
-    let printed = print_quota(recording, place, session, quota, &mut text);
-    let after = printed.session;
-    let is_said = shell::say_first(rt, &text, printed.length);
-    Turn {
-        session: after,
-        place: printed.place,
-        goes_on: is_said & !printed.is_over,
-    }
-}
-
-fn say_said(
+// Runs the quotas, each from where the last ended, and says the lines of each, in full: none has more than 110 bytes (proofs/Room.antt). A
+// refused sample ends it.
+fn say_quotas(
     rt: &impl System,
     recording: &[u8],
-    place: u16,
     session: Session,
-    argument: usize,
-) -> Turn {
-    let quota = quota_said(rt, argument);
-    match quota {
-        Some(n) => say_quota(rt, recording, place, session, n),
-        None => Turn {
-            session,
-            place,
-            goes_on: false,
-        },
-    }
-}
-
-fn say_quotas(rt: &impl System, recording: &[u8], session: Session, arguments: usize) {
-    let mut going = session;
-    let mut place: u16 = 0;
-    let mut argument = FIRST_QUOTA;
-    while argument < arguments {
-        let next = say_said(rt, recording, place, going, argument);
-        if !next.goes_on {
-            return;
+    arguments: usize,
+) -> Result<(), Failure> {
+    let mut session = session;
+    let mut place = 0;
+    for number in FIRST_QUOTA..arguments {
+        let Some(quota) = quota_said(rt, number) else {
+            break;
+        };
+        let mut text = [0; 4096];
+        let printed = print_quota(recording, place, session, quota, &mut text);
+        say(rt, &text[..printed.length])?;
+        if printed.is_over {
+            break;
         }
-        going = next.session;
-        place = next.place;
-        argument += 1;
+        session = printed.session;
+        place = printed.place;
     }
+    Ok(())
 }
 
-// The start of the recording on this card, below the heading of h bytes, and then the quotas.
-fn say_start(rt: &impl System, card: &[u8], recording: &[u8], h: usize, arguments: usize) {
-    let mut text = [0u8; 4096];
-    let begun = print_start(card, recording, &mut text);
-    shell::say_part(rt, &text, h, begun.length);
-    let opened = begun.opened;
-    match opened {
-        Opened::Ready(session) => say_quotas(rt, recording, session, arguments),
-        Opened::Refused(_) => (),
-    }
-}
-
-// The recording on standard input, on this card.
-fn say_below(rt: &impl System, card: &[u8], h: usize, arguments: usize) {
-    let mut space = ride_shell::recording_room();
-    let n = shell::read_input(rt, &mut space);
-    say_start(rt, card, &space[..n], h, arguments);
-}
-
-// Says the heading, then reads the card's file.
-fn card_below(rt: &impl System, buf: &mut [u8]) -> Below
-    ensures { result.length ≤ length buf.new }
-{
-    let mut space = [0u8; 64];
+// The heading and below it the start of the recording on the card, and then the quotas.
+fn print(rt: &impl System) -> Result<(), Failure> {
+    let arguments = arguments_asked(rt)?;
+    let mut space = [0; 64];
     let h = print_heading(&mut space);
-    card_under(rt, &space[..h], buf)
+    let heading = &space[..h];
+    let mut space = [0; CARD_ROOM];
+    let card = card_under(rt, heading, &mut space)?;
+    let mut space = recording_room();
+    let recording = shell::read_input(rt, &mut space);
+    let mut text = [0; 4096];
+    let begun = print_start(card, recording, &mut text);
+    let start = &text[..begun.length];
+    say(rt, start.strip_prefix(heading).unwrap_or_default())?;
+    match begun.opened {
+        Opened::Ready(session) => say_quotas(rt, recording, session, arguments),
+        Opened::Refused(_) => Ok(()),
+    }
 }
 
+// A failure has been told; the status stays 0, since the commands at the root make it of what is printed.
 fn main(rt: HostRuntime) {
-    let arguments = shell::argument_count(&rt);
-    if !is_asked(&rt, arguments) {
-        shell::warn(&rt, b"usage: replay CARD QUOTA.. < RECORDING\n");
-        return;
-    }
-    let mut space = [0u8; 4096];
-    let card = card_below(&rt, &mut space);
-    let n = card.length;
-    if card.is_read {
-        say_below(&rt, &space[..n], card.heading, arguments);
-    }
+    let _ = print(&rt);
 }

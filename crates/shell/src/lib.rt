@@ -1,24 +1,21 @@
-// What the programs share: writing what stands in a buffer, the file that a program's argument names, standard input as it
-// comes, and its lines.
+// What the programs share: writing a text, the file that a program's argument names, standard input as it comes, and its lines.
 //
-// No public function has a `requires`. What is read and whether it is written is the system's, and no contract can say it;
-// a count of bytes read lies within the buffer that was lent for them. What is said of the arguments, of a file that cannot
-// be read and of output that cannot be written goes to standard error.
+// No public function but `for_each_line` has a `requires`, and that one asks no more than a step which may be called. What is read and
+// whether it is written is the system's, and no contract can say it; bytes that were read lie within the buffer that was lent for
+// them. What is said of the arguments, of a file that cannot be read and of output that cannot be written goes to standard error.
+//
+// All that is read is read into a buffer that is lent, of a fixed size: no program can run out of memory.
 #![tactic(auto)]
 
-ghost use Rattle.std.specs.Prelude.{◌≡◌, ◌≤◌, length};
+ghost use Rattle.std.specs.Prelude.{◌≡◌, ◌≤◌, ℕ, length, get_or, IfOk, IfSome, OnErr};
 
 use std::env::{Env, FillError};
 use std::io::{Input, Print, Read};
 use std::rt::Files;
-use std::{fs, str};
+use std::{fs, io, str};
 
 // An argument of any length fits: the system hands a program no longer one.
 const NAME_MOST: usize = 131072;
-
-const NEWLINE: u8 = 10;
-
-const RETURN: u8 = 13;
 
 // ---- the system
 
@@ -35,232 +32,154 @@ impl System for HostRuntime {
     }
 }
 
+// A program cannot do what it is asked for. What there is to say of that stands on standard error already.
+#[derive(Clone, Copy, Debug, PartialEq, Eq)]
+pub struct Failure;
+
+// Says on standard error what stands in the way.
+pub fn failed(rt: &impl System, why: &[u8]) -> Failure {
+    rt.complain(why);
+    Failure
+}
+
+// ---- room
+
+// Room for so many bytes, all of them 0. It ensures its length, which lending needs: a check that counts the zeros of a large array runs
+// out of stack.
+pub fn room<const N: usize>() -> [u8; N]
+    ensures value { N ≡ length result }
+    ensures by_index { (i : ℕ) → get_or result i 0 ≡ 0 }
+{
+    [0; N]
+}
+
 // ---- writing
 
-// Writes a text to standard output, at once, and answers whether all of it was written.
-pub fn say(rt: &impl System, text: &[u8]) -> bool {
-    let written = rt.write_all(text).is_ok();
-    if !written {
-        warn(rt, b"cannot write\n");
-    }
-    written
-}
-
-// The same of a buffer's first n bytes, or of all where it has fewer.
-pub fn say_first(rt: &impl System, buffer: &[u8], n: usize) -> bool {
-    if n < buffer.len() {
-        return say(rt, &buffer[..n]);
-    }
-    say(rt, buffer)
-}
-
-// The same of a buffer's bytes from one place up to another; of nothing where it has no such bytes.
-pub fn say_part(rt: &impl System, buffer: &[u8], from: usize, to: usize) -> bool {
-    if from <= to {
-        if to <= buffer.len() {
-            return say(rt, &buffer[from..to]);
-        }
-    }
-    true
-}
-
-// Writes a text to standard error.
-pub fn warn(rt: &impl System, text: &[u8]) {
-    rt.complain(text);
+// Writes a text to standard output, all of it and at once.
+pub fn say(rt: &impl System, text: &[u8]) -> Result<(), Failure> {
+    rt.write_all(text)
+        .map_err(|_| failed(rt, b"cannot write\n"))
 }
 
 // ---- arguments
 
-// The bytes of the argument of this number, UTF-8 or not, at the start of the buffer, and how many there are. One that is
-// longer than the buffer is not handed out, and counts as one without bytes, as one that is not there.
-pub fn argument(rt: &impl System, number: usize, buf: &mut [u8]) -> usize
-    ensures { result ≤ length buf.new }
+// The bytes of the argument of this number, UTF-8 or not. One that is longer than the buffer is not handed out, and counts as one
+// without bytes, as one that is not there.
+pub fn argument<'a>(rt: &impl System, number: usize, buf: &'a mut [u8]) -> &'a [u8]
+    ensures { length result.now ≤ length buf.old }
 {
-    rt.arg(number, buf).unwrap_or(0)
+    let Ok(n) = rt.arg(number, buf) else {
+        return &[];
+    };
+    &buf[..n]
 }
 
 // How many arguments the program has, its name being one.
 pub fn argument_count(rt: &impl System) -> usize {
-    for number in 0..usize::MAX {
-        if !is_given(rt, number) {
-            return number;
-        }
-    }
-    usize::MAX
+    (0..usize::MAX)
+        .find(|number| !is_given(rt, *number))
+        .unwrap_or(usize::MAX)
 }
 
 // Is there an argument of this number. One that has bytes is too long for a buffer that has no room.
 fn is_given(rt: &impl System, number: usize) -> bool {
-    match rt.arg(number, &mut []) {
-        Ok(_) => true,
-        Err(FillError::TooLong) => true,
-        Err(FillError::NotPresent) => false,
+    !matches!(rt.arg(number, &mut []), Err(FillError::NotPresent))
+}
+
+// Has the program its one argument. Where it has none, or more than one, the usage line is written.
+pub fn has_argument(rt: &impl System, usage: &[u8]) -> Result<(), Failure> {
+    if argument_count(rt) == 2 {
+        Ok(())
+    } else {
+        Err(failed(rt, usage))
     }
 }
 
 // ---- the file that the argument names
 
-// Whether a file was read, and how many bytes of it stand at the start of the buffer.
-#[derive(Clone, Copy)]
-pub struct File {
-    pub is_read: bool,
-    pub length: usize,
-}
-
-// Has the program its one argument. Where it has none, or more than one, the usage line is written.
-pub fn has_argument(rt: &impl System, usage: &[u8]) -> bool {
-    let one = argument_count(rt) == 2;
-    if !one {
-        warn(rt, usage);
-    }
-    one
-}
-
 // The file that the program's one argument names, as `named_file` has it; none where there is not one argument.
-pub fn argument_file(rt: &impl System, usage: &[u8], buf: &mut [u8]) -> File
-    ensures { result.length ≤ length buf.new }
+pub fn argument_file<'a>(
+    rt: &impl System,
+    usage: &[u8],
+    buf: &'a mut [u8],
+) -> Result<&'a [u8], Failure>
+    ensures { IfOk result (λ bytes. length bytes.now ≤ length buf.old) }
 {
-    if has_argument(rt, usage) {
-        return named_file(rt, buf);
-    }
-    no_file()
-}
-
-// Room for the name.
-fn name_room() -> [u8; NAME_MOST]
-    ensures { 131072 ≡ length result }
-{
-    [0; NAME_MOST]
-}
-
-fn no_file() -> File
-    ensures { result.length ≡ 0 }
-{
-    File {
-        is_read: false,
-        length: 0,
-    }
+    has_argument(rt, usage)?;
+    named_file(rt, buf)
 }
 
 // The file that the program's argument names, from its first byte to its end or as far as buf goes. Where it cannot be
-// opened or read, `cannot read` and its name are written; then no file is read and the length is 0. A path is text, so a
-// name that is no UTF-8 cannot be opened.
-pub fn named_file(rt: &impl System, buf: &mut [u8]) -> File
-    ensures { result.length ≤ length buf.new }
+// opened or read to its end, `cannot read` and its name are written. A path is text, so a name that is no UTF-8 cannot be opened.
+pub fn named_file<'a>(rt: &impl System, buf: &'a mut [u8]) -> Result<&'a [u8], Failure>
+    ensures { IfOk result (λ bytes. length bytes.now ≤ length buf.old) }
 {
-    let mut name = name_room();
-    let n = argument(rt, 1, &mut name);
-    let file = opened_file(rt, &name[..n], buf);
-    if !file.is_read {
-        warn(rt, b"cannot read ");
-        warn(rt, &name[..n]);
-        warn(rt, b"\n");
-    }
-    file
+    let mut space = room::<NAME_MOST>();
+    let name = argument(rt, 1, &mut space);
+    let Ok(n) = read_file(rt, name, buf) else {
+        rt.complain(b"cannot read ");
+        rt.complain(name);
+        return Err(failed(rt, b"\n"));
+    };
+    Ok(&buf[..n])
 }
 
-// The file of this name; none where the name is no text.
-fn opened_file(rt: &impl System, name: &[u8], buf: &mut [u8]) -> File
-    ensures { result.length ≤ length buf.new }
+// How many bytes the file of this name gave. Of one that cannot be read to its end nothing is read.
+fn read_file(rt: &impl System, name: &[u8], buf: &mut [u8]) -> io::Result<usize>
+    ensures { IfOk result (λ n. n ≤ length buf.new) }
 {
     let Ok(path) = str::from_utf8(name) else {
-        return no_file();
+        return Err(io::Error::from(io::ErrorKind::NotFound));
     };
-    match fs::open(rt, path) {
-        Ok(mut opened) => read_file(&mut opened, buf),
-        Err(_) => no_file(),
-    }
+    let mut file = fs::open(rt, path)?;
+    let (n, end) = fill(&mut file, buf);
+    end.map(|()| n)
 }
 
-// Of a file that cannot be read to its end nothing is read.
-fn read_file(reader: &mut impl Read, buf: &mut [u8]) -> File
-    ensures { result.length ≤ length buf.new }
+// Reads until buf is full, the input ends or a read fails: how many bytes that gave, and how it ended.
+fn fill(reader: &mut impl Read, buf: &mut [u8]) -> (usize, io::Result<()>)
+    ensures { result.0 ≤ length buf.new }
 {
-    let file = fill(reader, buf);
-    if file.is_read { file } else { no_file() }
-}
-
-// Reads until buf is full, the input ends or a read fails: how many bytes that gave, and whether no read failed.
-fn fill(reader: &mut impl Read, buf: &mut [u8]) -> File
-    ensures { result.length ≤ length buf.new }
-{
-    let mut done = 0;
-    while done < buf.len() {
-        let some = read_some(reader, &mut buf[done..]);
-        if some.length == 0 {
-            return File {
-                is_read: some.is_read,
-                length: done,
-            };
+    let mut filled = 0;
+    while filled < buf.len() {
+        match reader.read(&mut buf[filled..]) {
+            Ok(0) => break,
+            Ok(n) => filled += n,
+            Err(why) => return (filled, Err(why)),
         }
-        done += some.length;
     }
-    File {
-        is_read: true,
-        length: done,
-    }
-}
-
-// One read, of what is there.
-fn read_some(reader: &mut impl Read, part: &mut [u8]) -> File
-    ensures prefix_len { result.length ≤ length part.new }
-    ensures length_in_bounds { result.length ≤ length part.old }
-{
-    match reader.read(part) {
-        Ok(n) => File {
-            is_read: true,
-            length: n,
-        },
-        Err(_) => no_file(),
-    }
+    (filled, Ok(()))
 }
 
 // ---- standard input, whole and as it comes
 
-// Standard input to its end, or as far as buf goes, and how many bytes that is. A read that fails counts as the end.
-pub fn read_input(rt: &impl System, buf: &mut [u8]) -> usize
-    ensures { result ≤ length buf.new }
+// Standard input to its end, or as far as buf goes. A read that fails counts as the end.
+pub fn read_input<'a>(rt: &impl System, buf: &'a mut [u8]) -> &'a [u8]
+    ensures { length result.now ≤ length buf.old }
 {
-    fill(&mut rt.reader(), buf).length
+    let (n, _) = fill(&mut rt.reader(), buf);
+    &buf[..n]
 }
 
 // One read of standard input, of at most so many bytes: what is there, be it less; nothing at its end. Where it cannot be
-// read that is written, and none is read.
-pub fn read_piece(rt: &impl System, most: usize, buf: &mut [u8]) -> File
-    ensures prefix_len { result.length ≤ length buf.new }
-    ensures length_le_most { result.length ≤ most }
+// read that is written.
+pub fn read_piece<'a>(rt: &impl System, most: usize, buf: &'a mut [u8]) -> Result<&'a [u8], Failure>
+    ensures prefix_len { IfOk result (λ bytes. length bytes.now ≤ length buf.old) }
+    ensures length_le_most { IfOk result (λ bytes. length bytes.now ≤ most) }
 {
-    let piece = read_most(rt, most, buf);
-    if !piece.is_read {
-        warn(rt, b"cannot read standard input\n");
-    }
-    piece
-}
-
-fn read_most(rt: &impl System, most: usize, buf: &mut [u8]) -> File
-    ensures prefix_len { result.length ≤ length buf.new }
-    ensures length_le_most { result.length ≤ most }
-{
-    let mut input = rt.reader();
-    if most < buf.len() {
-        return read_some(&mut input, &mut buf[..most]);
-    }
-    read_some(&mut input, buf)
+    let room = most.min(buf.len());
+    let Ok(n) = rt.reader().read(&mut buf[..room]) else {
+        return Err(failed(rt, b"cannot read standard input\n"));
+    };
+    Ok(&buf[..n])
 }
 
 // ---- lines of standard input
 
-// How many bytes of a line stand at the start of the buffer, and whether there was one at all.
-#[derive(Clone, Copy)]
-pub struct Line {
-    pub is_there: bool,
-    pub length: usize,
-}
-
 // The next line of standard input without its end, LF or CR LF. Of a line that is longer than the buffer the rest is
 // passed over. There is none where the input has ended; a read that fails counts as the end.
-pub fn read_line(rt: &impl System, line: &mut [u8]) -> Line
-    ensures { result.length ≤ length line.new }
+pub fn read_line<'a>(rt: &impl System, buf: &'a mut [u8]) -> Option<&'a [u8]>
+    ensures { IfSome result (λ line. length line.now ≤ length buf.old) }
 {
     let mut n = 0;
     let mut is_there = false;
@@ -269,39 +188,34 @@ pub fn read_line(rt: &impl System, line: &mut [u8]) -> Line
             break;
         };
         is_there = true;
-        if byte == NEWLINE {
+        if byte == b'\n' {
             break;
         }
-        n = put_byte(line, n, byte);
+        if n < buf.len() {
+            buf[n] = byte;
+            n += 1;
+        }
     }
-    Line {
-        is_there,
-        length: before_return(line, n),
-    }
+    let line = &buf[..n];
+    is_there.then_some(line.strip_suffix(b"\r").unwrap_or(line))
 }
 
-// The byte behind the line's first n, where there is room for it: how many there are then.
-fn put_byte(line: &mut [u8], n: usize, byte: u8) -> usize
-    requires { n ≤ length line.old }
-    ensures { result ≤ length line.new }
+// Hands each line of standard input to a step, as `read_line` reads it, until there is none or a step fails.
+//
+// Nothing says that an input ends, so the lines are counted, up to a number that no input uses up.
+pub fn for_each_line<F: FnMut(&[u8]) -> Result<(), Failure>>(
+    rt: &impl System,
+    buf: &mut [u8],
+    mut step: F,
+) -> Result<(), Failure>
+    requires { F.IsAlwaysCallable step }
+    ensures { OnErr result ((state : F) × (line : _) × (next : F) × F.step state line result next) }
 {
-    if n < line.len() {
-        line[n] = byte;
-        return n + 1;
+    for _ in 0..u64::MAX {
+        let Some(line) = read_line(rt, buf) else {
+            return Ok(());
+        };
+        step(line)?;
     }
-    n
-}
-
-// n, or one less where the last of the first n bytes is a carriage return.
-fn before_return(line: &[u8], n: usize) -> usize
-    ensures { result ≤ n }
-{
-    if n == 0 {
-        return 0;
-    }
-    if leaf::byte_at(line, n - 1) == RETURN {
-        n - 1
-    } else {
-        n
-    }
+    Ok(())
 }

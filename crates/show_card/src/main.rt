@@ -2,20 +2,18 @@
 // stands at the refusal's place.
 #![tactic(auto)]
 
-use shell::System;
+use shell::{Failure, System, argument_file, say};
 use shown_card::print_card;
 
-fn show(rt: &impl System, area: &[u8]) {
-    let mut text = [0u8; 4096];
+fn show(rt: &impl System) -> Result<(), Failure> {
+    let mut space = [0; 65536];
+    let area = argument_file(rt, b"usage: show_card FILE\n", &mut space)?;
+    let mut text = [0; 4096];
     let n = print_card(area, &mut text);
-    shell::say(rt, &text[..n]);
+    say(rt, &text[..n])
 }
 
+// A failure has been told; the status stays 0, since the commands at the root make it of what is printed.
 fn main(rt: HostRuntime) {
-    let mut area = [0u8; 65536];
-    let file = shell::argument_file(&rt, b"usage: show_card FILE\n", &mut area);
-    let n = file.length;
-    if file.is_read {
-        show(&rt, &area[..n]);
-    }
+    let _ = show(&rt);
 }

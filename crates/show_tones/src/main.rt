@@ -2,55 +2,33 @@
 // stands at the refusal's place. A tone is a line of eight hexadecimal digits, the bit pattern of its f32 in kHz.
 #![tactic(auto)]
 
-use shell::System;
+use shell::{Failure, System, argument_file, for_each_line, say};
 use shown_tones::{print_sheet, print_tone};
 
-// Answers whether what the line reads as could be written.
-fn show_line(rt: &impl System, sheet: &[u8], line: &[u8]) -> bool {
-    let mut text = [0u8; 4096];
+const USAGE: &[u8] =
+    b"usage: show_tones SHEET < TONES, a tone a line as the 8 hexadecimal digits of its f32 in kHz\n";
+
+// What the line reads as.
+fn show_line(rt: &impl System, sheet: &[u8], line: &[u8]) -> Result<(), Failure> {
+    let mut text = [0; 4096];
     let n = print_tone(sheet, line, &mut text);
-    shell::say(rt, &text[..n])
-}
-
-// The next line, and what it reads as. Answers whether there was one and its answer was written.
-fn one_line(rt: &impl System, sheet: &[u8]) -> bool {
-    let mut line = [0u8; 80];
-    let got = shell::read_line(rt, &mut line);
-    let n = got.length;
-    if got.is_there {
-        return show_line(rt, sheet, &line[..n]);
-    }
-    false
-}
-
-// Nothing says that an input ends, so the lines are counted down from a number that no input uses up.
-fn show_lines(rt: &impl System, sheet: &[u8]) {
-    let mut left = u64::MAX;
-    while left > 0 && one_line(rt, sheet) {
-        left -= 1;
-    }
+    say(rt, &text[..n])
 }
 
 // Nothing is printed of an accepted sheet but its lines.
-fn show(rt: &impl System, sheet: &[u8]) {
-    let mut text = [0u8; 4096];
+fn show(rt: &impl System) -> Result<(), Failure> {
+    let mut space = [0; 65536];
+    let sheet = argument_file(rt, USAGE, &mut space)?;
+    let mut text = [0; 4096];
     let n = print_sheet(sheet, &mut text);
-    if n == 0 {
-        show_lines(rt, sheet);
-        return;
+    if n > 0 {
+        return say(rt, &text[..n]);
     }
-    shell::say(rt, &text[..n]);
+    let mut space = [0; 80];
+    for_each_line(rt, &mut space, |line| show_line(rt, sheet, line))
 }
 
+// A failure has been told; the status stays 0, since the commands at the root make it of what is printed.
 fn main(rt: HostRuntime) {
-    let mut area = [0u8; 65536];
-    let file = shell::argument_file(
-        &rt,
-        b"usage: show_tones SHEET < TONES, a tone a line as the 8 hexadecimal digits of its f32 in kHz\n",
-        &mut area,
-    );
-    let n = file.length;
-    if file.is_read {
-        show(&rt, &area[..n]);
-    }
+    let _ = show(&rt);
 }

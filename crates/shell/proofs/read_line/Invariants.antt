@@ -3,4 +3,4 @@ use Rattle.std.proofs.Common.{length, ◌≤◌}
 use Rattle.shell.proofs.read_line.Given as goal
 
 abbrev pub invariant-loop-byte : goal.invariant-loop-byte
-invariant-loop-byte g l = l.n ≤ length l.line
+invariant-loop-byte g l = l.n ≤ length l.buf

@@ -1,7 +1,7 @@
 use Rattle.std.proofs.Common.{ℕ, zero, suc}
 use mathlib.Core.Path.{◌≡◌, refl}
 use lib.ListN.{get_or, replicate}
-use Rattle.ride_shell.proofs.recording_room.Goals as goal
+use Rattle.shell.proofs.room.Goals as goal
 
 all_zero : (n i : ℕ) → get_or {A = ℕ} (replicate n 0) i 0 ≡ 0
 all_zero zero i = refl
@@ -9,4 +9,4 @@ all_zero (suc n) zero = refl
 all_zero (suc n) (suc i) = all_zero n i
 
 pub returns-clause-by_index : goal.returns-clause-by_index
-returns-clause-by_index c = λ i. all_zero 60007 i
+returns-clause-by_index g c = λ i. all_zero _ i

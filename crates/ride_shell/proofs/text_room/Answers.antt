@@ -1,7 +1,0 @@
-use Rattle.std.proofs.Common.{ℕ}
-use mathlib.Core.Path.{sym}
-use lib.ListN.{length-replicate}
-use Rattle.ride_shell.proofs.text_room.Goals as goal
-
-pub returns : goal.returns
-returns c = sym (length-replicate {A = ℕ} 660040 0)
