@@ -21,8 +21,6 @@ use tone::ToneAnswer;
 
 const MOST: usize = 256;
 
-const NO_LINE: u16 = 256;
-
 // ---- bytes
 
 // The first n bytes, or all where there are fewer.
@@ -342,42 +340,25 @@ fn say_line(rt: &impl System, area: &mut [u8; MOST], length: u8, line: &[u8]) {
     let at = put_text(&mut out, 0, line);
     if byte_at(line, 0) == b'#' {
         let n = put(&mut out, at, b'\n');
-        shell::say_first(rt, &out, n);
+        let _ = shell::say(rt, &out[..n.min(out.len())]);
         return;
     }
     let at = put(&mut out, at, b':');
     let at = put_answer(&mut out, at, area, length, line);
     let n = put(&mut out, at, b'\n');
-    shell::say_first(rt, &out, n);
+    let _ = shell::say(rt, &out[..n.min(out.len())]);
 }
 
-// The next line: how many bytes the area has behind it, of which it had so many before; 256 where there is no line.
-fn one_line(rt: &impl System, area: &mut [u8; MOST], length: u8) -> u16 {
-    let mut space = [0u8; 4096];
-    let got = shell::read_line(rt, &mut space);
-    if !got.is_there {
-        return NO_LINE;
-    }
-    let n = got.length;
-    let line = &space[..n];
-    if byte_at(line, 0) == b'a' {
-        return bytes_of(line, area) as u16;
-    }
-    say_line(rt, area, length, line);
-    length as u16
-}
-
-// Nothing says that an input ends, so the lines are counted down from a number that no input uses up.
 fn main(rt: HostRuntime) {
     let mut area = [0u8; MOST];
     let mut length: u8 = 0;
-    let mut left = u64::MAX;
-    while left > 0 {
-        let next = one_line(&rt, &mut area, length);
-        if next == NO_LINE {
-            return;
+    let mut space = [0; 4096];
+    let _ = shell::for_each_line(&rt, &mut space, |line| {
+        if byte_at(line, 0) == b'a' {
+            length = bytes_of(line, &mut area);
+        } else {
+            say_line(&rt, &mut area, length, line);
         }
-        length = (next % 256) as u8;
-        left -= 1;
-    }
+        Ok(())
+    });
 }

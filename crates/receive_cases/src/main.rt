@@ -44,7 +44,7 @@ fn put_status(out: &mut [u8], at: usize, status: Status) -> usize {
 fn say_lines(rt: &impl System, text: &mut [u8], end: usize, status: Status) {
     let at = put_status(text, end, status);
     let n = put(text, at, b'\n');
-    shell::say_first(rt, text, n);
+    let _ = shell::say(rt, &text[..n.min(text.len())]);
 }
 
 // How many lines a call shows, and the mark of all lines so far.
@@ -77,13 +77,13 @@ fn say_tally(rt: &impl System, tally: Tally, sign: u8, status: Status) {
         let at = put_status(&mut line, 0, status);
         let at = put_labelled(&mut line, at, b", mark ", tally.mark);
         let n = put(&mut line, at, b'\n');
-        shell::say_first(rt, &line, n);
+        let _ = shell::say(rt, &line[..n.min(line.len())]);
         return;
     }
     let at = put_ended(&mut line, 0, tally.lines, b' ');
     let at = put_status(&mut line, at, status);
     let n = put_text(&mut line, at, b", ");
-    shell::say_first(rt, &line, n);
+    let _ = shell::say(rt, &line[..n.min(line.len())]);
 }
 
 // What the call with this sign shows, in full or counted, where its text has n bytes. Answers the mark after it.
@@ -167,7 +167,7 @@ fn say_place(rt: &impl System, place: usize) {
     let mut line = [0u8; 4096];
     let at = put_ended(&mut line, 0, (place % 65536) as u32, b':');
     let n = put(&mut line, at, b' ');
-    shell::say_first(rt, &line, n);
+    let _ = shell::say(rt, &line[..n.min(line.len())]);
 }
 
 fn say_cut(rt: &impl System, receiver: Receiver, digits: &[u8], place: usize) {
@@ -215,7 +215,7 @@ fn go(rt: &impl System, way: Way, receiver: Receiver, word: &[u8]) {
 fn start(rt: &impl System, way: Way, card: &[u8], h: usize, word: &[u8]) {
     let mut text = [0u8; 4096];
     let begun = print_start(Columns::Paper, card, &mut text);
-    shell::say_part(rt, &text, h, begun.length);
+    let _ = shell::say(rt, text[..begun.length].get(h..).unwrap_or_default());
     let started = begun.started;
     match started {
         Started::Ready(receiver) => go(rt, way, receiver, word),
@@ -240,8 +240,8 @@ fn step_at(line: &[u8], from: usize) -> u8 {
 }
 
 fn answer(rt: &impl System, line: &[u8]) {
-    shell::say(rt, line);
-    shell::say(rt, b"\n");
+    let _ = shell::say(rt, line);
+    let _ = shell::say(rt, b"\n");
     let next = behind(line, 0, b' ');
     let kind = byte_at(line, 0);
     match kind {
@@ -256,25 +256,10 @@ fn answer(rt: &impl System, line: &[u8]) {
     }
 }
 
-// The next line, and whether there was one.
-fn one_line(rt: &impl System) -> bool {
-    let mut space = [0u8; 65536];
-    let got = shell::read_line(rt, &mut space);
-    if !got.is_there {
-        return false;
-    }
-    let n = got.length;
-    answer(rt, &space[..n]);
-    true
-}
-
-// Nothing says that an input ends, so the lines are counted down from a number that no input uses up.
 fn main(rt: HostRuntime) {
-    let mut left = u64::MAX;
-    while left > 0 {
-        if !one_line(&rt) {
-            return;
-        }
-        left -= 1;
-    }
+    let mut space = [0; 65536];
+    let _ = shell::for_each_line(&rt, &mut space, |line| {
+        answer(&rt, line);
+        Ok(())
+    });
 }

@@ -69,6 +69,7 @@ pub fn print_under<P: Fn(&[u8], &[u8], &mut [u8]) -> usize>(
     print: P,
 ) -> Result<(), Failure>
     requires { P.IsAlwaysCallable print }
+    ensures { OnOk result ((card : _) × (recording : _) × (out : _) × (n : _) × (after : _) × P.post print card recording out n after) }
 {
     let mut space = [0; CARD_ROOM];
     let card = card_under(rt, heading, &mut space)?;

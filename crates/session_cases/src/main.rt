@@ -12,7 +12,7 @@ mod pairs;
 use card::{Found, Reading, card_in};
 use leaf::{Refusal, choose32};
 use session::{Opened, Outcome, Sample, Session};
-use shell::{System, say, say_first};
+use shell::{System, say};
 use step::Answer;
 use text::{put, put_ended, put_refusal};
 
@@ -32,7 +32,7 @@ fn refusal(rt: &impl System, why: Refusal) {
     let mut line = [0u8; 4096];
     let at = put_refusal(&mut line, 0, why);
     let n = put(&mut line, at, b'\n');
-    say_first(rt, &line, n);
+    let _ = say(rt, &line[..n.min(line.len())]);
 }
 
 fn put_answer(line: &mut [u8], a: Answer) -> usize {
@@ -46,7 +46,7 @@ fn put_answer(line: &mut [u8], a: Answer) -> usize {
 fn answer(rt: &impl System, a: Answer) {
     let mut line = [0u8; 4096];
     let n = put_answer(&mut line, a);
-    say_first(rt, &line, n);
+    let _ = say(rt, &line[..n.min(line.len())]);
 }
 
 fn outcome(rt: &impl System, o: Outcome) {
@@ -118,7 +118,7 @@ fn with_cause(mut session: Session, cause: u8) -> Session {
 // The 8 is not read in BTS and is the last code. A mode change with pulses is refused, so the start row that leaving BTS set is one
 // sample older after it, no more, and the 8 is not new. A sample without a beacon lets it be read: cause 4 at standstill, 256 + 1024.
 fn mode_refused(rt: &impl System, session: Session) {
-    say(
+    let _ = say(
         rt,
         b"a mode change with pulses is refused, and changes nothing\n",
     );
@@ -135,7 +135,7 @@ fn mode_refused(rt: &impl System, session: Session) {
 // neither answered it nor armed override, and their codes, 13, 0 and 12, are not the last one: the 7 behind them is not new, so it
 // makes no stop zone. Then a press does answer.
 fn sample_refused(rt: &impl System, session: Session) {
-    say(
+    let _ = say(
         rt,
         b"beacon 13, button 11, mode 3 and 1001 pulses are refused, and change nothing\n",
     );
@@ -151,7 +151,7 @@ fn sample_refused(rt: &impl System, session: Session) {
 // The tick length is 10..1000, the train type 1..8 and its T at most vmax. 8 comes before 9. Five refusals later, everything put back,
 // the beacon 7 is one sample old.
 fn session_refused(rt: &impl System, session: Session) {
-    say(
+    let _ = say(
         rt,
         b"a session out of its ranges is refused, and handed back as it was\n",
     );
@@ -167,7 +167,7 @@ fn session_refused(rt: &impl System, session: Session) {
 // Behind a last code of 12 another 12 alarms as the first does, 2048, and brakes at standstill, 1024. A session with cause 6 is braked. 13
 // and 7 are out of range.
 fn code_and_cause(rt: &impl System, session: Session) {
-    say(rt, b"a last code may be 12 and a cause 6, and no more\n");
+    let _ = say(rt, b"a last code may be 12 and a cause 6, and no more\n");
     reads(rt, with_last_code(session, 12), 0, 12);
     reads(rt, with_last_code(session, 13), 0, 12);
     reads(rt, with_cause(session, 6), 0, 0);
@@ -196,18 +196,18 @@ fn run_with_refused(rt: &impl System, session: Session, more: u16) {
 
 // Five, four and the last are ten: rearmed. With three they are nine: the brake stays on and lamp 10 dark.
 fn run_unbroken(rt: &impl System, session: Session) {
-    say(
+    let _ = say(
         rt,
         b"a refused sample neither counts among ten without pulses nor breaks their run\n",
     );
     run_with_refused(rt, session, 4);
-    say(rt, b"and with nine it is not standstill\n");
+    let _ = say(rt, b"and with nine it is not standstill\n");
     run_with_refused(rt, session, 3);
 }
 
 // Nine before are enough for the mode to change, eight are not.
 fn mode_by_count(rt: &impl System, session: Session) {
-    say(
+    let _ = say(
         rt,
         b"a session with a count of 9 changes its mode, with 8 it does not\n",
     );
@@ -217,7 +217,7 @@ fn mode_by_count(rt: &impl System, session: Session) {
 
 // The count stops at 30,000, which is standstill still; more is out of range.
 fn count_top(rt: &impl System, session: Session) {
-    say(rt, b"a count may be 30,000, where it stops, and no more\n");
+    let _ = say(rt, b"a count may be 30,000, where it stops, and no more\n");
     let full = reads(rt, with_stood(session, 30000), 0, 0);
     after(rt, full, 0, 0, 0, 2);
     reads(rt, with_stood(session, 30001), 0, 0);
@@ -234,9 +234,9 @@ fn second_seven(rt: &impl System, session: Session, tick: u16, pulses: u16) {
 }
 
 fn zone(rt: &impl System, session: Session) {
-    say(rt, b"beacon 7 again at 799,999 is the stop zone\n");
+    let _ = say(rt, b"beacon 7 again at 799,999 is the stop zone\n");
     second_seven(rt, session, 31, 129);
-    say(rt, b"and at 800,000 is none\n");
+    let _ = say(rt, b"and at 800,000 is none\n");
     second_seven(rt, session, 40, 100);
 }
 
@@ -244,7 +244,7 @@ fn read_under_1(rt: &impl System, card: [u8; 44]) {
     let reading = card::read(&card, 1);
     match reading {
         Reading::Read(_) => {
-            say(rt, b"read\n");
+            let _ = say(rt, b"read\n");
         }
         Reading::Refused(why) => refusal(rt, why),
     }
@@ -252,7 +252,7 @@ fn read_under_1(rt: &impl System, card: [u8; 44]) {
 
 // Card K, and its first 39 bytes as a record of version 1.
 fn highest_1(rt: &impl System) {
-    say(
+    let _ = say(
         rt,
         b"under highest 1 version 2 is refused and version 1 read\n",
     );

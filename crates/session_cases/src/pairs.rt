@@ -40,7 +40,7 @@ fn opens(rt: &impl System, version: u8, settings: Settings, train: u8) {
     let opened = Session::open(Card { version, settings }, train);
     match opened {
         Opened::Ready(_) => {
-            say(rt, b"opened\n");
+            let _ = say(rt, b"opened\n");
         }
         Opened::Refused(why) => refusal(rt, why),
     }
@@ -57,19 +57,19 @@ fn opens_beside(rt: &impl System, settings: Settings) {
 
 // Version 1 has functions 0, at 39; the bytes of pairs, from 44 on, are 0 beside versions 1 and 2, and are not beside version 3.
 fn versions(rt: &impl System, k: Settings) {
-    say(rt, b"card K's settings open beside version 2 alone\n");
+    let _ = say(rt, b"card K's settings open beside version 2 alone\n");
     opens_beside(rt, k);
-    say(rt, b"without functions beside 1 and 2\n");
+    let _ = say(rt, b"without functions beside 1 and 2\n");
     opens_beside(rt, without_functions(k));
-    say(rt, b"with pairs beside 3\n");
+    let _ = say(rt, b"with pairs beside 3\n");
     opens_beside(rt, with_pairs(k, pairs_c()));
-    say(rt, b"with pairs and without functions beside 3\n");
+    let _ = say(rt, b"with pairs and without functions beside 3\n");
     opens_beside(rt, with_pairs(without_functions(k), pairs_c()));
 }
 
 // Of what is at fault 2 is first, then the first of the settings, then the train type.
 fn opening_order(rt: &impl System, k: Settings) {
-    say(rt, b"the opening refuses 2, then 5, then 7\n");
+    let _ = say(rt, b"the opening refuses 2, then 5, then 7\n");
     opens(rt, 4, with_slow_vmax(k), 0);
     opens(rt, 3, with_slow_vmax(k), 0);
     opens(rt, 3, k, 0);
@@ -127,7 +127,7 @@ fn with_first(mut session: Session, distance: u32) -> Session {
 // Versions 0 and 4 are none; version 1 has no functions, version 3 has pairs, and version 2 has none. 8 comes before 9. Put back, all is as
 // it was.
 fn version_refused(rt: &impl System, session: Session) {
-    say(
+    let _ = say(
         rt,
         b"a version is judged with the settings, and its session handed back as it was\n",
     );
@@ -152,7 +152,7 @@ fn version_refused(rt: &impl System, session: Session) {
 
 // Limit 30 stands and may go, 64. At 30,000 its age stops; 30,001 is out of range, of a limit that does not stand too.
 fn paired_ages(rt: &impl System, session: Session) {
-    say(
+    let _ = say(
         rt,
         b"the age of a paired limit may be 30,000, where it stops, and no more\n",
     );
@@ -165,7 +165,7 @@ fn paired_ages(rt: &impl System, session: Session) {
 
 // 6,000 m is where it stops: 100 pulses more change nothing.
 fn first_distances(rt: &impl System, session: Session) {
-    say(
+    let _ = say(
         rt,
         b"the first of a pair may be 60,000,000 back, where it stops, and no more\n",
     );
@@ -184,16 +184,16 @@ fn counts(rt: &impl System, session: Session) {
 
 // A paired limit counts whatever the version is.
 fn paired_limit_counts(rt: &impl System, session: Session, paired: Session) {
-    say(rt, b"a paired limit counts in a session of version 2\n");
+    let _ = say(rt, b"a paired limit counts in a session of version 2\n");
     counts(rt, session);
-    say(rt, b"as in one of version 3\n");
+    let _ = say(rt, b"as in one of version 3\n");
     counts(rt, paired);
 }
 
 // An 11 at 10 m, and at 9.9 m and 0.1 m more, makes a pair, 40 km/h, and waits for the limit's button. A tenth of a millimetre further off, or
 // beside version 2, it sets the single limit, 110 km/h.
 fn first_counts(rt: &impl System, session: Session, paired: Session) {
-    say(
+    let _ = say(
         rt,
         b"a first makes a pair on a card with pairs, no further off than they say\n",
     );

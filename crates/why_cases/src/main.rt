@@ -66,7 +66,7 @@ fn say_sample(rt: &impl System, session: Session, x: Sample) -> Session {
     let told = asked.told;
     let mut line = [0u8; 4096];
     let n = put_told(&mut line, told);
-    shell::say_first(rt, &line, n);
+    let _ = shell::say(rt, &line[..n.min(line.len())]);
     asked.session
 }
 
@@ -117,7 +117,7 @@ fn go_at(rt: &impl System, session: Session, line: &[u8], from: usize) {
 fn say_refused(rt: &impl System, number: u8) {
     let mut line = [0u8; 4096];
     let n = put_refused(&mut line, 0, number);
-    shell::say_first(rt, &line, n);
+    let _ = shell::say(rt, &line[..n.min(line.len())]);
 }
 
 fn opened_on(card: &[u8], train: u8) -> Opened {
@@ -162,8 +162,8 @@ fn why_at(rt: &impl System, line: &[u8], first: usize) {
 }
 
 fn answer(rt: &impl System, line: &[u8]) {
-    shell::say(rt, line);
-    shell::say(rt, b"\n");
+    let _ = shell::say(rt, line);
+    let _ = shell::say(rt, b"\n");
     let kind = byte_at(line, 0);
     match kind {
         b'w' => why_at(rt, line, behind(line, 0, b' ')),
@@ -171,25 +171,10 @@ fn answer(rt: &impl System, line: &[u8]) {
     }
 }
 
-// The next line, and whether there was one.
-fn one_line(rt: &impl System) -> bool {
-    let mut space = [0u8; 65536];
-    let got = shell::read_line(rt, &mut space);
-    if !got.is_there {
-        return false;
-    }
-    let n = got.length;
-    answer(rt, &space[..n]);
-    true
-}
-
-// Nothing says that an input ends, so the lines are counted down from a number that no input uses up.
 fn main(rt: HostRuntime) {
-    let mut left = u64::MAX;
-    while left > 0 {
-        if !one_line(&rt) {
-            return;
-        }
-        left -= 1;
-    }
+    let mut space = [0; 65536];
+    let _ = shell::for_each_line(&rt, &mut space, |line| {
+        answer(&rt, line);
+        Ok(())
+    });
 }
