@@ -1,3 +1,4 @@
 pub mod Room
 pub mod Ranges
 pub mod Told
+pub mod Words
