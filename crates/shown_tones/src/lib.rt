@@ -5,7 +5,8 @@
 // The functions type from the place `at` on, as those of `text` do. There is no `requires`.
 #![tactic(auto)]
 
-ghost use Rattle.std.specs.Prelude.{◌≡◌, ◌+◌, ◌*◌, ◌%◌, ◌≤◌};
+ghost use Rattle.std.specs.Prelude.{◌≡◌, ◌+◌, ◌-◌, ◌*◌, ◌%◌, eqb};
+ghost use Rattle.std.specs.Option.{MatchOption};
 ghost use Rattle.std.specs.Float.Ieee.Scale.{finite};
 ghost use Rattle.leaf.specs.Answers.{refusal_of};
 ghost use Rattle.leaf.specs.Choosing.{pick};
@@ -14,13 +15,12 @@ ghost use Rattle.tone.specs.Tones.{all_finite, share};
 ghost use Rattle.tone.specs.declared.Reading.TheVariants.{Nothing};
 ghost use Rattle.text.specs.Hex.{hex_value};
 ghost use Rattle.text.specs.Typing.{typed, Held};
+ghost use Rattle.text.specs.Words.{ascii, word_of};
 ghost use Rattle.shown_tones.specs.Shown.{row_kind, row_name, is_ordered, ends_by128, ends_by_twice_low, reason_of, shared_by, reason_text, row_text, length_text, version_text, place_text, fault_text, bad_text, sheet_text, shown_sheet};
 ghost use Rattle.shown_tones.specs.Shown.{is_blank, bytes_in, only_digits, is_tone, bits_of, reading_text, given_text, tone_text, other_text, shown_tone};
 
-use leaf::{QUIET_CODE, Refusal, byte_at, choose32, less, long_at, or_fault, word_at};
-use text::{
-    counted, hex_digit, put_float, put_labelled, put_pattern, put_refusal, put_text, put_word,
-};
+use leaf::{QUIET_CODE, Refusal, byte_at, long_at, word_at};
+use text::{counted, hex_digit, put_float, put_labelled, put_pattern, put_refusal, put_text};
 use tone::{Fault, Reading, ToneAnswer, ToneRow, float_of};
 
 // ---- a sheet's refusal
@@ -43,17 +43,18 @@ fn put_row_name(out: &mut [u8], at: usize, k: u32) -> usize
 }
 
 // Is x neither an infinity nor a NaN.
+#[tactic(auto, using(crate::proofs::Texts::finite_is))]
 fn is_finite(x: f32) -> bool
     ensures { result ≡ finite x }
 {
-    (-1.0 / 0.0 < x) & (x < 1.0 / 0.0)
+    x.is_finite()
 }
 
 // The row of the sheet in the area, good or bad.
 fn row_in(area: &[u8], k: u8) -> ToneRow
     ensures { result ≡ row_in area.now k }
 {
-    let at = 3 + 12 * (k as u32);
+    let at = 3 + 12 * u32::from(k);
     ToneRow {
         low: float_of(long_at(area, at)),
         centre: float_of(long_at(area, at + 4)),
@@ -65,20 +66,21 @@ fn row_in(area: &[u8], k: u8) -> ToneRow
 fn shares(a: ToneRow, b: ToneRow) -> bool
     ensures { result ≡ share a b }
 {
-    (a.low <= b.high) & (b.low <= a.high)
+    a.low <= b.high && b.low <= a.high
 }
 
-// What a row needs by itself, a function each; then the first of these that it lacks, 0 where it lacks none.
+// What a row needs by itself, a function each.
 fn is_all_finite(r: ToneRow) -> bool
     ensures { result ≡ all_finite r }
 {
-    is_finite(r.low) & is_finite(r.centre) & is_finite(r.high)
+    is_finite(r.low) && is_finite(r.centre) && is_finite(r.high)
 }
 
+#[tactic(auto, using(tone::proofs::Laws::low_is))]
 fn is_ordered(r: ToneRow) -> bool
     ensures { result ≡ is_ordered r }
 {
-    (32.0 <= r.low) & (r.low <= r.centre) & (r.centre <= r.high)
+    32.0 <= r.low && r.low <= r.centre && r.centre <= r.high
 }
 
 fn ends_by_128(r: ToneRow) -> bool
@@ -93,42 +95,64 @@ fn ends_by_twice_low(r: ToneRow) -> bool
     r.high <= 2.0 * r.low
 }
 
-fn reason_of(r: ToneRow) -> u8
-    ensures { result ≡ reason_of r }
+#[tactic(auto, unfolding(crate::specs::Shown::reason_of, leaf::specs::Checks::or_fault))]
+fn lacks_nothing(r: ToneRow) -> bool
+    ensures { result ≡ eqb (reason_of r) 0 }
 {
-    let n = or_fault(0, 1, is_all_finite(r));
-    let n = or_fault(n, 2, is_ordered(r));
-    let n = or_fault(n, 3, ends_by_128(r));
-    or_fault(n, 4, ends_by_twice_low(r))
+    is_all_finite(r) && is_ordered(r) && ends_by_128(r) && ends_by_twice_low(r)
 }
 
-// One more than the number of the first earlier row that shares a tone with row k, 0 where none does.
-fn shared_by(area: &[u8], k: u8) -> u8
-    ensures { result ≡ shared_by area.now k k }
+// The first of these that a row lacks, in words; where it lacks none, what stands before the name of a row that shares a tone with it.
+#[tactic(auto, unfolding(crate::specs::Shown::reason_of, leaf::specs::Checks::or_fault, text::specs::Words::word_of))]
+fn reason(r: ToneRow) -> &'static [u8]
+    ensures { result.now ≡ word_of (ascii ": shares a tone with |: a number is not finite|: not 32 <= low <= centre <= high|: high is above 128|: high is above twice low") (reason_of r) }
+{
+    if !is_all_finite(r) {
+        return b": a number is not finite";
+    }
+    if !is_ordered(r) {
+        return b": not 32 <= low <= centre <= high";
+    }
+    if !ends_by_128(r) {
+        return b": high is above 128";
+    }
+    if !ends_by_twice_low(r) {
+        return b": high is above twice low";
+    }
+    b": shares a tone with "
+}
+
+// The first earlier row that shares a tone with row k.
+#[tactic(auto, using(crate::proofs::Texts::stays_first, crate::proofs::Texts::none_first), unfolding(crate::specs::Shown::shared_by))]
+fn shared_by(area: &[u8], k: u8) -> Option<u8>
+    ensures { MatchOption result (shared_by area.now k k ≡ 0) (λ row. shared_by area.now k k ≡ row + 1) }
 {
     let row = row_in(area, k);
-    let mut found = 0;
-    let mut i: u8 = 0;
-    while i < k {
-        let apart = !shares(row_in(area, i), row);
-        found = or_fault(found, i + 1, apart);
-        i += 1;
+    for i in 0..k {
+        if shares(row_in(area, i), row) {
+            return Some(i);
+        }
     }
-    found
+    None
+}
+
+// Its number, which there is where a row is bad and lacks nothing by itself; else 0.
+fn first_shared(area: &[u8], k: u8) -> u32
+    ensures { result ≡ shared_by area.now k k - 1 }
+{
+    match shared_by(area, k) {
+        Some(row) => u32::from(row),
+        None => 0,
+    }
 }
 
 fn put_reason(out: &mut [u8], at: usize, area: &[u8], k: u8) -> usize
     ensures { (out.new, result) ≡ typed (reason_text area.now k) (out.old, at) }
 {
-    let reason = reason_of(row_in(area, k));
-    let at = put_word(
-        out,
-        at,
-        b": shares a tone with |: a number is not finite|: not 32 <= low <= centre <= high|: high is above 128|: high is above twice low",
-        reason as u32,
-    );
-    if reason == 0 {
-        return put_row_name(out, at, less(shared_by(area, k) as u32, 1));
+    let row = row_in(area, k);
+    let at = put_text(out, at, reason(row));
+    if lacks_nothing(row) {
+        return put_row_name(out, at, first_shared(area, k));
     }
     at
 }
@@ -136,7 +160,7 @@ fn put_reason(out: &mut [u8], at: usize, area: &[u8], k: u8) -> usize
 fn put_row(out: &mut [u8], at: usize, area: &[u8], k: u8) -> usize
     ensures { (out.new, result) ≡ typed (row_text area.now k) (out.old, at) }
 {
-    let at = put_row_name(out, at, k as u32);
+    let at = put_row_name(out, at, u32::from(k));
     put_reason(out, at, area, k)
 }
 
@@ -147,7 +171,7 @@ fn put_length(out: &mut [u8], at: usize, area: &[u8]) -> usize
         out,
         at,
         b"length, or fewer than 147 bytes: the field is ",
-        word_at(area, 0) as u32,
+        u32::from(word_at(area, 0)),
     );
     let at = put_labelled(out, at, b", there are ", counted(area));
     put_text(out, at, b" bytes")
@@ -156,7 +180,7 @@ fn put_length(out: &mut [u8], at: usize, area: &[u8]) -> usize
 fn put_version(out: &mut [u8], at: usize, area: &[u8]) -> usize
     ensures { (out.new, result) ≡ typed (version_text area.now) (out.old, at) }
 {
-    let at = put_labelled(out, at, b"version: is ", byte_at(area, 2) as u32);
+    let at = put_labelled(out, at, b"version: is ", u32::from(byte_at(area, 2)));
     put_labelled(out, at, b", must be ", 1)
 }
 
@@ -213,67 +237,51 @@ fn put_sheet(area: &[u8], out: &mut [u8]) -> usize
 fn is_blank(b: u8) -> bool
     ensures { result ≡ is_blank b }
 {
-    (b == b' ') | (b == b'\t')
-}
-
-fn one_unless(test: bool) -> usize
-    ensures value { result ≡ pick test 0 1 }
-    ensures upper_bound { result ≤ 1 }
-{
-    if test { 0 } else { 1 }
+    matches!(b, b' ' | b'\t')
 }
 
 // How many bytes are no blanks.
+#[tactic(auto, using(crate::proofs::Texts::bytes_counted))]
 fn bytes_in(line: &[u8]) -> usize
     ensures { result ≡ bytes_in line.now }
 {
-    let mut n = 0;
-    let mut i = 0;
-    while i < line.len() {
-        n += one_unless(is_blank(line[i]));
-        i += 1;
-    }
-    n
+    line.iter().filter(|&&b| !is_blank(b)).count()
 }
 
 // Are all bytes blanks and hexadecimal digits.
 fn only_digits(line: &[u8]) -> bool
     ensures { result ≡ only_digits line.now }
 {
-    let mut i = 0;
-    while i < line.len() {
-        let fine = is_blank(line[i]) | (hex_digit(line[i]) < 16);
-        if !fine {
-            return false;
-        }
-        i += 1;
-    }
-    true
+    line.iter().all(|&b| is_blank(b) || hex_digit(b) < 16)
 }
 
+#[tactic(auto, unfolding(crate::specs::Shown::is_tone))]
 fn is_tone(line: &[u8]) -> bool
     ensures { result ≡ is_tone line.now }
 {
-    (bytes_in(line) == 8) & only_digits(line)
+    bytes_in(line) == 8 && only_digits(line)
 }
 
 // The bits with a line's next byte, where it is no blank.
 fn next_bits(bits: u32, b: u8) -> u32
     ensures { result ≡ pick (is_blank b) bits (bits % 0x1000_0000 * 16 + hex_value b % 16) }
 {
-    let next = bits % 0x1000_0000 * 16 + (hex_digit(b) % 16) as u32;
-    choose32(is_blank(b), bits, next)
+    if is_blank(b) {
+        bits
+    } else {
+        bits % 0x1000_0000 * 16 + u32::from(hex_digit(b) % 16)
+    }
 }
 
-// The number that a line's hexadecimal digits write, the last eight of them.
+// The number that a line's hexadecimal digits write, the last eight of them. Blanks stand between them, so it is no text that std
+// reads as a number.
+#[tactic(auto, unfolding(crate::specs::Shown::bits_from))]
 fn bits_in(line: &[u8]) -> u32
     ensures { result ≡ bits_of line.now }
 {
-    let mut bits: u32 = 0;
-    let mut i = 0;
-    while i < line.len() {
-        bits = next_bits(bits, line[i]);
-        i += 1;
+    let mut bits = 0;
+    for &b in line {
+        bits = next_bits(bits, b);
     }
     bits
 }
@@ -281,7 +289,7 @@ fn bits_in(line: &[u8]) -> u32
 fn put_nothing(out: &mut [u8], at: usize) -> usize
     ensures { (out.new, result) ≡ typed (reading_text Nothing) (out.old, at) }
 {
-    put_labelled(out, at, b" nothing code ", QUIET_CODE as u32)
+    put_labelled(out, at, b" nothing code ", u32::from(QUIET_CODE))
 }
 
 fn put_reading(out: &mut [u8], at: usize, reading: Reading) -> usize
@@ -289,7 +297,7 @@ fn put_reading(out: &mut [u8], at: usize, reading: Reading) -> usize
 {
     match reading {
         Reading::Beacon(k, offset) => {
-            let at = put_labelled(out, at, b" beacon ", k as u32);
+            let at = put_labelled(out, at, b" beacon ", u32::from(k));
             let at = put_text(out, at, b" offset ");
             put_float(out, at, offset)
         }
@@ -331,15 +339,14 @@ fn put_other(out: &mut [u8], at: usize, line: &[u8]) -> usize
     )
 }
 
+#[tactic(auto, unfolding(text::specs::Typing::typed, crate::specs::Shown::shown_tone))]
 fn put_line(area: &[u8], line: &[u8], out: &mut [u8]) -> usize
     ensures { (out.new, result) ≡ typed (shown_tone area.now line.now) (out.old, 0) }
 {
-    let none = bytes_in(line) == 0;
-    if none {
+    if bytes_in(line) == 0 {
         return 0;
     }
-    let tone = is_tone(line);
-    if tone {
+    if is_tone(line) {
         return put_tone(area, bits_in(line), out, 0);
     }
     put_other(out, 0, line)

@@ -1,32 +1,8 @@
-use mathlib.Core.Bool.{◌||◌}
-use lib.Dec.{ltb}
-use Rattle.std.proofs.Common.{◌<◌, suc, arith}
-use native.Mathlib.Numerals.{add-one}
-use mathlib.Core.Path.{◌≡◌}
-use lib.ListN.{drop, length}
-use lib.Seq.{drop-cons, drop-length}
-use borrow.Author.Tests.{not-true, not-false}
-use Rattle.shown_tones.specs.Shown.{only_digits}
+use Rattle.std.proofs.Common.{rules}
+use Rattle.std.proofs.lemmas.Iterator.{YieldsList-from_slice}
+use Rattle.std.proofs.lemmas.Iterator.Search.{all_from_yields_List}
+use Rattle.shown_tones.proofs.Texts.{is_digit, digits_all}
 use Rattle.shown_tones.proofs.only_digits.Goals as goal
 
-pub returns-then-not-fine : goal.returns-then-not-fine
-unfolding only_digits
-returns-then-not-fine c = let l = c.loop-i in
-    let line = c.args.line.now in
-    let here : l.i < length line = c.loop-i-test.true in
-    rw (← l.invariant.1, drop-cons line l.i 0 here, ← c.is_blank.ensures, ← c.hex_digit.ensures, not-true (c.is_blank.result || ltb c.hex_digit.result 16) c.if-not-fine.true-raw)
-
-pub loop-i-preserved : goal.loop-i-preserved
-unfolding only_digits
-loop-i-preserved c = let l = c.loop-i in
-    let line = c.args.line.now in
-    let here : l.i < length line = c.loop-i-test.true in
-    let step : only_digits (drop l.i line) ≡ only_digits (drop (suc l.i) line) = rw (drop-cons line l.i 0 here, ← c.is_blank.ensures, ← c.hex_digit.ensures, not-false (c.is_blank.result || ltb c.hex_digit.result 16) c.if-not-fine.false-raw) in
-    (omega arith, rw (add-one, ← step) l.invariant.1)
-
 pub returns : goal.returns
-unfolding only_digits
-returns c = let l = c.loop-i in
-    let line = c.args.line.now in
-    let done : l.i ≡ length line = omega arith in
-    rw (← l.invariant.1, done, drop-length)
+returns c = rw (← digits_all c.args.line.now) (all_from_yields_List is_digit _ _ _ c.all.ensures.ran (YieldsList-from_slice c.args.line.now cc) (λ x b q k. search rules))

@@ -3,4 +3,4 @@ use Rattle.shown_tones.proofs.put_nothing.Goals as goal
 
 pub returns : goal.returns
 unfolding reading_text
-returns c = c.put_labelled.ensures
+returns c = rw c.from.ensures at c.put_labelled.ensures

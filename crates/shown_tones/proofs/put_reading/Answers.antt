@@ -4,7 +4,7 @@ use Rattle.shown_tones.proofs.put_reading.Goals as goal
 
 pub returns-in-Beacon : goal.returns-in-Beacon
 unfolding reading_text
-returns-in-Beacon c = rw c.in-Beacon.is (then_typed _ _ _ (then_typed _ _ _ c.put_labelled-at.ensures c.put_text-at.ensures) c.put_float.ensures)
+returns-in-Beacon c = rw c.in-Beacon.is (then_typed _ _ _ (then_typed _ _ _ (rw c.from.ensures at c.put_labelled-at.ensures) c.put_text-at.ensures) c.put_float.ensures)
 
 pub returns-in-Permanent : goal.returns-in-Permanent
 unfolding reading_text

@@ -4,4 +4,4 @@ use Rattle.shown_tones.proofs.put_row.Goals as goal
 
 pub returns : goal.returns
 unfolding row_text
-returns c = then_typed _ _ _ c.put_row_name-at.ensures c.put_reason.ensures
+returns c = then_typed _ _ _ (rw c.from.ensures at c.put_row_name-at.ensures) c.put_reason.ensures
