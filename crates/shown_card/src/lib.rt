@@ -4,18 +4,22 @@
 // Each function types from the place `at` on, as those of `text` do. There is no public `requires`.
 #![tactic(auto)]
 
-ghost use Rattle.std.specs.Prelude.{◌≡◌, ◌≤◌, length, take, drop};
+ghost use Rattle.std.specs.Prelude.{◌≡◌, ◌≤◌, [], ◌∷◌, ◌++◌, length, take, drop, ltb};
 ghost use Rattle.leaf.specs.Answers.{given};
+ghost use Rattle.leaf.specs.Choosing.{pick};
+ghost use Rattle.text.specs.Decimal.{MOST as Decimal·MOST, blank};
+ghost use Rattle.text.specs.Hex.{hex_of};
+ghost use Rattle.text.specs.Words.{ascii, word_of};
 ghost use Rattle.text.specs.Typing.{typed, Held};
-ghost use Rattle.shown_card.specs.Shown.{fall_text, row_text, rows_text, function_line, reminder_line, functions_text, head_text, pair_text, all_pairs_text, pairs_text, settings_text};
+ghost use Rattle.shown_card.specs.Shown.{fall_text, row_text, rows_text, function_line, reminder_line, function_names, functions_text, head_text, pair_names, pair_text, all_pairs_text, pairs_text, settings_text};
 ghost use Rattle.shown_card.specs.Shown.{hex_bytes, hex_line, hex_lines, many_text, more_text, behind_text, card_text, shown_card};
 
-use card::{Pairs, Reading, Row, Settings};
-use leaf::{byte_at, choose32, has_bit, less, word_at};
+use card::{Pairs, Reading, Row, Settings, functions_of};
+use leaf::{byte_at, word_at};
 use refused_card::{put_row_name, put_why};
 use text::{
     MOST, counted, put, put_ended, put_hex, put_hundredths, put_labelled, put_number, put_tenths,
-    put_text, put_word,
+    put_text,
 };
 
 // The highest version that the program knows.
@@ -28,13 +32,13 @@ const COLON: u8 = b':';
 // ---- the settings
 
 // How the speed of a row falls: from so many samples on, so many hundredths a sample.
-fn put_fall(out: &mut [u8], at: usize, delay: u8, drop: u8) -> usize
-    ensures { (out.new, result) ≡ typed (fall_text delay drop) (out.old, at) }
+fn put_fall(out: &mut [u8], at: usize, row: Row) -> usize
+    ensures { (out.new, result) ≡ typed (fall_text row.delay row.drop) (out.old, at) }
 {
     let at = put_text(out, at, b" km/h, delay ");
-    let at = put_tenths(out, at, delay as u32);
+    let at = put_tenths(out, at, u32::from(row.delay));
     let at = put_text(out, at, b" s, drop ");
-    let at = put_hundredths(out, at, drop as u32);
+    let at = put_hundredths(out, at, u32::from(row.drop));
     put_text(out, at, b" km/h a sample\n")
 }
 
@@ -42,11 +46,12 @@ fn put_row(out: &mut [u8], at: usize, k: u32, row: Row) -> usize
     ensures { (out.new, result) ≡ typed (row_text k row) (out.old, at) }
 {
     let at = put_row_name(out, at, k);
-    let at = put_labelled(out, at, b": initial ", row.initial as u32);
-    let at = put_labelled(out, at, b", final ", row.last as u32);
-    put_fall(out, at, row.delay, row.drop)
+    let at = put_labelled(out, at, b": initial ", u32::from(row.initial));
+    let at = put_labelled(out, at, b", final ", u32::from(row.last));
+    put_fall(out, at, row)
 }
 
+#[tactic(auto, using(text::specs::Typing::then_typed), unfolding(crate::specs::Shown::rows_text))]
 fn put_rows(out: &mut [u8], at: usize, s: Settings) -> usize
     ensures { (out.new, result) ≡ typed (rows_text s) (out.old, at) }
 {
@@ -60,17 +65,32 @@ fn put_rows(out: &mut [u8], at: usize, s: Settings) -> usize
     put_row(out, at, 7, s.start)
 }
 
+#[tactic(auto, unfolding(text::specs::Words::word_of))]
+fn function_name(k: u32) -> &'static [u8]
+    ensures { result.now ≡ word_of function_names k }
+{
+    match k {
+        0 => b", protected crossing: ",
+        1 => b", stop zone: ",
+        2 => b", reminder: ",
+        3 => b", BTS reads beacons 4, 9, 10, 11: ",
+        _ => b"",
+    }
+}
+
+#[tactic(auto, unfolding(text::specs::Words::word_of))]
+fn state(on: bool) -> &'static [u8]
+    ensures { result.now ≡ word_of (ascii "off\n|on\n") (pick on 1 0) }
+{
+    if on { b"on\n" } else { b"off\n" }
+}
+
 fn put_function_line(out: &mut [u8], at: usize, k: u32, on: bool) -> usize
     ensures { (out.new, result) ≡ typed (function_line k on) (out.old, at) }
 {
     let at = put_labelled(out, at, b"function ", k);
-    let at = put_word(
-        out,
-        at,
-        b", protected crossing: |, stop zone: |, reminder: |, BTS reads beacons 4, 9, 10, 11: ",
-        k,
-    );
-    put_word(out, at, b"off\n|on\n", choose32(on, 1, 0))
+    let at = put_text(out, at, function_name(k));
+    put_text(out, at, state(on))
 }
 
 // X and Y speak only while the reminder is on.
@@ -78,45 +98,54 @@ fn put_reminder_line(out: &mut [u8], at: usize, on: bool, x: u16, y: u16) -> usi
     ensures { (out.new, result) ≡ typed (reminder_line on x y) (out.old, at) }
 {
     if on {
-        let at = put_labelled(out, at, b"function 2, reminder: on, X ", x as u32);
-        let at = put_labelled(out, at, b" samples, Y ", y as u32);
+        let at = put_labelled(out, at, b"function 2, reminder: on, X ", u32::from(x));
+        let at = put_labelled(out, at, b" samples, Y ", u32::from(y));
         return put_text(out, at, b" m\n");
     }
     put_function_line(out, at, 2, false)
 }
 
-fn put_functions(out: &mut [u8], at: usize, functions: u8, x: u16, y: u16) -> usize
-    ensures { (out.new, result) ≡ typed (functions_text functions x y) (out.old, at) }
+fn put_functions(out: &mut [u8], at: usize, s: Settings) -> usize
+    ensures { (out.new, result) ≡ typed (functions_text s.functions s.x s.y) (out.old, at) }
 {
-    let mask = functions as u16;
-    let at = put_function_line(out, at, 0, has_bit(mask, 1));
-    let at = put_function_line(out, at, 1, has_bit(mask, 2));
-    let at = put_reminder_line(out, at, has_bit(mask, 4), x, y);
-    put_function_line(out, at, 3, has_bit(mask, 8))
+    let functions = functions_of(s.functions);
+    let at = put_function_line(out, at, 0, functions.protects);
+    let at = put_function_line(out, at, 1, functions.zones);
+    let at = put_reminder_line(out, at, functions.reminds, s.x, s.y);
+    put_function_line(out, at, 3, functions.reads_in_bts)
 }
 
-fn put_head(out: &mut [u8], at: usize, version: u8, vmax: u8, tick: u16, bts: u8) -> usize
-    ensures { (out.new, result) ≡ typed (head_text version vmax tick bts) (out.old, at) }
+fn put_head(out: &mut [u8], at: usize, version: u8, s: Settings) -> usize
+    ensures { (out.new, result) ≡ typed (head_text version s.vmax s.tick s.bts) (out.old, at) }
 {
-    let at = put_labelled(out, at, b"card version ", version as u32);
-    let at = put_labelled(out, at, b"\nvmax ", vmax as u32);
+    let at = put_labelled(out, at, b"card version ", u32::from(version));
+    let at = put_labelled(out, at, b"\nvmax ", u32::from(s.vmax));
     let at = put_text(out, at, b" km/h\ntick ");
-    let at = put_tenths(out, at, tick as u32);
-    let at = put_labelled(out, at, b" mm\nBTS speed ", bts as u32);
+    let at = put_tenths(out, at, u32::from(s.tick));
+    let at = put_labelled(out, at, b" mm\nBTS speed ", u32::from(s.bts));
     put_text(out, at, b" km/h\n")
 }
 
-// A pair by its number, 0 to 3: its speed.
+// A pair by its number, 0 to 3.
+#[tactic(auto, unfolding(text::specs::Words::word_of))]
+fn pair_name(k: u32) -> &'static [u8]
+    ensures { result.now ≡ word_of pair_names k }
+{
+    match k {
+        0 => b"pair 10-10: ",
+        1 => b"pair 10-11: ",
+        2 => b"pair 11-10: ",
+        3 => b"pair 11-11: ",
+        _ => b"",
+    }
+}
+
+// Its speed.
 fn put_pair(out: &mut [u8], at: usize, k: u32, speed: u8) -> usize
     ensures { (out.new, result) ≡ typed (pair_text k speed) (out.old, at) }
 {
-    let at = put_word(
-        out,
-        at,
-        b"pair 10-10: |pair 10-11: |pair 11-10: |pair 11-11: ",
-        k,
-    );
-    let at = put_number(out, at, speed as u32);
+    let at = put_text(out, at, pair_name(k));
+    let at = put_number(out, at, u32::from(speed));
     put_text(out, at, b" km/h\n")
 }
 
@@ -127,7 +156,7 @@ fn put_all_pairs(out: &mut [u8], at: usize, pairs: Pairs) -> usize
     let at = put_pair(out, at, 1, pairs.ten_eleven);
     let at = put_pair(out, at, 2, pairs.eleven_ten);
     let at = put_pair(out, at, 3, pairs.eleven_eleven);
-    let at = put_labelled(out, at, b"pair distance: ", pairs.distance as u32);
+    let at = put_labelled(out, at, b"pair distance: ", u32::from(pairs.distance));
     put_text(out, at, b" m\n")
 }
 
@@ -142,27 +171,33 @@ fn put_pairs(out: &mut [u8], at: usize, version: u8, pairs: Pairs) -> usize
     at
 }
 
+#[tactic(auto, using(text::specs::Typing::then_typed), unfolding(crate::specs::Shown::settings_text))]
 fn put_settings(out: &mut [u8], at: usize, version: u8, s: Settings) -> usize
     ensures { (out.new, result) ≡ typed (settings_text version s) (out.old, at) }
 {
-    let at = put_head(out, at, version, s.vmax, s.tick, s.bts);
+    let at = put_head(out, at, version, s);
     let at = put_rows(out, at, s);
-    let at = put_functions(out, at, s.functions, s.x, s.y);
+    let at = put_functions(out, at, s);
     put_pairs(out, at, version, s.pairs)
 }
 
 // ---- what lies behind the record
 
-// Bytes of a listing, a blank before each.
+// A byte of a listing, a blank before it.
+#[tactic(auto, using(text::specs::Typing::then_typed))]
+fn put_byte(out: &mut [u8], at: usize, byte: u8) -> usize
+    ensures { (out.new, result) ≡ typed ((blank ∷ []) ++ hex_of byte) (out.old, at) }
+{
+    let at = put(out, at, BLANK);
+    put_hex(out, at, byte)
+}
+
 fn put_bytes(out: &mut [u8], at: usize, bytes: &[u8]) -> usize
     ensures { (out.new, result) ≡ typed (hex_bytes bytes.now) (out.old, at) }
 {
     let mut place = at;
-    let mut i = 0;
-    while i < bytes.len() {
-        let behind = put(out, place, BLANK);
-        place = put_hex(out, behind, bytes[i]);
-        i += 1;
+    for &byte in bytes {
+        place = put_byte(out, place, byte);
     }
     place
 }
@@ -172,12 +207,8 @@ fn sixteen(area: &[u8], from: usize) -> &[u8]
     requires { from ≤ length area.now }
     ensures { result.now ≡ take 16 (drop from area.now) }
 {
-    let left = area.len() - from;
-    if left < 16 {
-        return &area[from..];
-    }
-    let end = from + 16;
-    &area[from..end]
+    let left = &area[from..];
+    if left.len() < 16 { left } else { &left[..16] }
 }
 
 // A line of them, the place of the first before it; none where the area ends before.
@@ -194,6 +225,7 @@ fn put_line(out: &mut [u8], at: usize, area: &[u8], from: u32) -> usize
 }
 
 // Four lines: the first 64 bytes from a place on.
+#[tactic(auto, using(text::specs::Typing::then_typed), unfolding(crate::specs::Shown::hex_lines))]
 fn put_lines(out: &mut [u8], at: usize, area: &[u8], from: u16) -> usize
     ensures { (out.new, result) ≡ typed (hex_lines area.now from) (out.old, at) }
 {
@@ -204,12 +236,24 @@ fn put_lines(out: &mut [u8], at: usize, area: &[u8], from: u16) -> usize
     put_line(out, at, area, first + 48)
 }
 
+// What is said behind a number of bytes where there are as many as a program looks at.
+#[tactic(auto, unfolding(text::specs::Words::word_of))]
+fn or_more(bytes: u32) -> &'static [u8]
+    ensures { result.now ≡ word_of (ascii "| or more") (pick (ltb bytes Decimal·MOST) 0 1) }
+{
+    if bytes < MOST as u32 {
+        b""
+    } else {
+        b" or more"
+    }
+}
+
 // How many bytes lie behind the first so many: at least that, where there are as many as a program looks at.
 fn put_many(out: &mut [u8], at: usize, bytes: u32, first: u32) -> usize
     ensures { (out.new, result) ≡ typed (many_text bytes first) (out.old, at) }
 {
-    let at = put_number(out, at, less(bytes, first));
-    put_word(out, at, b"| or more", choose32(bytes < MOST as u32, 0, 1))
+    let at = put_number(out, at, bytes.saturating_sub(first));
+    put_text(out, at, or_more(bytes))
 }
 
 // How many lie behind those that are listed.

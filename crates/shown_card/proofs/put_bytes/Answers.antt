@@ -1,30 +1,15 @@
-use Rattle.std.proofs.Common.{suc, ◌<◌, arith}
-use native.Mathlib.Numerals.{add-one}
-use mathlib.Core.Path.{◌≡◌}
-use mathlib.Core.List.{[], ◌∷◌}
-use lib.ListN.{length, drop, get_or}
-use lib.Seq.{drop-cons, drop-length}
-use Rattle.text.specs.Decimal.{blank}
-use Rattle.text.specs.Hex.{hex_of}
-use Rattle.text.specs.Typing.{typed, typed_append, then_typed}
-use Rattle.shown_card.specs.Shown.{hex_bytes}
+use Rattle.std.proofs.Common.{suc, ◌<◌, ◌≡◌, [], drop, length, get_or, add-one, drop-cons, drop_of_length-le}
+use Rattle.shown_card.proofs.Bytes.{byte_goes, bytes_end}
 use Rattle.shown_card.proofs.put_bytes.Goals as goal
 
-pub loop-i-preserved : goal.loop-i-preserved
-unfolding hex_bytes
-loop-i-preserved c = let l = c.loop-i in
+pub loop-byte-preserved : goal.loop-byte-preserved
+loop-byte-preserved c = let l = c.loop-byte in
     let bytes = c.args.bytes.now in
-    let here : l.i < length bytes = c.loop-i-test.true in
-    let byte = blank ∷ hex_of (get_or bytes l.i 0) in
-    let put : (c.put_hex-place.new.out, c.put_hex-place.result) ≡ typed byte (l.out, l.place) = then_typed (blank ∷ []) (hex_of (get_or bytes l.i 0)) _ c.put-behind.ensures c.put_hex-place.ensures in (
-      omega arith,
-      omega arith,
-      rw (add-one, put, ← typed_append byte (hex_bytes (drop (suc l.i) bytes)) (l.out, l.place)) (rw (drop-cons bytes l.i 0 here) at l.invariant.2),
-    )
+    let here : l.byte-index < length bytes = c.loop-byte-test.true in
+    let goes = byte_goes (get_or bytes l.byte-index 0) (drop (suc l.byte-index) bytes) (l.out, l.place) in
+    rw (add-one, c.put_byte-place.ensures, ← goes) (rw (drop-cons bytes l.byte-index 0 here) at l.invariant)
 
 pub returns : goal.returns
-unfolding hex_bytes typed
-returns c = let l = c.loop-i in
-    let bytes = c.args.bytes.now in
-    let done : l.i ≡ length bytes = omega arith in
-    rw (done, drop-length) at l.invariant.2
+returns c = let l = c.loop-byte in
+    let none : drop l.byte-index c.args.bytes.now ≡ [] = drop_of_length-le c.args.bytes.now c.loop-byte-test.false in
+    rw (none, bytes_end (l.out, l.place)) at l.invariant

@@ -4,4 +4,4 @@ use Rattle.shown_card.proofs.put_many.Goals as goal
 
 pub returns : goal.returns
 unfolding many_text
-returns c = then_typed _ _ _ (rw c.less.ensures at c.put_number-at.ensures) (rw c.choose32.ensures at c.put_word.ensures)
+returns c = then_typed _ _ _ (rw c.saturating_sub.ensures at c.put_number-at.ensures) (rw c.or_more.ensures at c.put_text.ensures)

@@ -4,4 +4,4 @@ use Rattle.shown_card.proofs.put_pair.Goals as goal
 
 pub returns : goal.returns
 unfolding pair_text
-returns c = then_typed _ _ _ (then_typed _ _ _ c.put_word-at.ensures c.put_number-at.ensures) c.put_text.ensures
+returns c = then_typed _ _ _ (then_typed _ _ _ (rw c.pair_name.ensures at c.put_text-at.ensures) (rw c.from.ensures at c.put_number-at.ensures)) c.put_text.ensures

@@ -4,7 +4,7 @@ use Rattle.shown_card.proofs.put_reminder_line.Goals as goal
 
 pub returns-then-on : goal.returns-then-on
 unfolding reminder_line
-returns-then-on c = rw c.if-on.true (then_typed _ _ _ (then_typed _ _ _ c.put_labelled-at.ensures c.put_labelled-at-then-on.ensures) c.put_text.ensures)
+returns-then-on c = rw c.if-on.true (then_typed _ _ _ (then_typed _ _ _ (rw c.from.ensures at c.put_labelled-at.ensures) (rw c.from-then-on.ensures at c.put_labelled-at-then-on.ensures)) c.put_text.ensures)
 
 pub returns : goal.returns
 unfolding reminder_line

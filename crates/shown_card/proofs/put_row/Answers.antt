@@ -4,4 +4,4 @@ use Rattle.shown_card.proofs.put_row.Goals as goal
 
 pub returns : goal.returns
 unfolding row_text
-returns c = then_typed _ _ _ (then_typed _ _ _ (then_typed _ _ _ c.put_row_name-at.ensures c.put_labelled-at.ensures) c.put_labelled-at-2.ensures) c.put_fall.ensures
+returns c = then_typed _ _ _ (then_typed _ _ _ (then_typed _ _ _ c.put_row_name-at.ensures (rw c.from.ensures at c.put_labelled-at.ensures)) (rw c.from-2.ensures at c.put_labelled-at-2.ensures)) c.put_fall.ensures
