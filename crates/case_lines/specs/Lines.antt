@@ -1,10 +1,12 @@
--- A line's words, and bytes in hexadecimal digits.
-use Rattle.std.specs.Prelude.{ℕ, zero, suc, ◌+◌, ◌*◌, min, ◌≤◌, ◌<◌, ◌≡◌, List, [], ◌∷◌, eqb, ltb, length, drop, get_or}
+-- A line's words, bytes in hexadecimal digits, and how an answer is written.
+use Rattle.std.specs.Prelude.{ℕ, zero, suc, ◌+◌, ◌*◌, min, ◌≤◌, ◌<◌, ◌≡◌, List, [], ◌∷◌, ◌++◌, eqb, ltb, length, drop, get_or}
 use Rattle.std.proofs.Common.{arith, add-one, ◌∙◌, drop_of_length-le, drop-cons, lt-ltb, le-ltb, eq-eqb, ne_eqb}
 use Rattle.std.proofs.Math.Seq.{drop-nil}
 use Rattle.leaf.specs.Bytes.{byte}
 use Rattle.leaf.specs.Choosing.{pick}
+use Rattle.text.specs.Decimal.{blank, ended}
 use Rattle.text.specs.Hex.{hex_value}
+use Rattle.step.specs.declared.Answer.{Answer}
 
 -- how many bytes a text has up to its first such mark, the mark among them; all where it has none
 unfoldable pub up_to : ℕ → List ℕ → ℕ
@@ -25,6 +27,11 @@ unfoldable pub pairs_of : List ℕ → List ℕ
 pairs_of [] = []
 pairs_of (high ∷ []) = []
 pairs_of (high ∷ low ∷ rest) = (high * 16 + low) ∷ pairs_of rest
+
+-- an answer's fields as numbers, 1 for a limit that stands; a blank behind each but the last
+unfoldable pub answer_text : Answer → ℕ → List ℕ
+answer_text a end =
+    ended a.speed blank ++ ended a.lamps blank ++ ended a.cause blank ++ ended a.icon blank ++ ended (pick a.limit 1 0) end
 
 -- ---- laws
 
