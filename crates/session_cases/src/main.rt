@@ -10,11 +10,12 @@
 mod pairs;
 
 use card::{Found, Reading, card_in};
-use leaf::{Refusal, choose32};
+use case_lines::put_answer;
+use leaf::Refusal;
 use session::{Opened, Outcome, Sample, Session};
 use shell::{System, say};
 use step::Answer;
-use text::{put, put_ended, put_refusal};
+use text::{put, put_refusal};
 
 // Card K: length, version, vmax, tick length and BTS speed; eight rows of initial, final, delay and drop; functions, X, Y.
 fn card_k() -> [u8; 44] {
@@ -35,17 +36,9 @@ fn refusal(rt: &impl System, why: Refusal) {
     let _ = say(rt, &line[..n.min(line.len())]);
 }
 
-fn put_answer(line: &mut [u8], a: Answer) -> usize {
-    let at = put_ended(line, 0, a.speed, b' ');
-    let at = put_ended(line, at, a.lamps as u32, b' ');
-    let at = put_ended(line, at, a.cause as u32, b' ');
-    let at = put_ended(line, at, a.icon as u32, b' ');
-    put_ended(line, at, choose32(a.limit, 1, 0), b'\n')
-}
-
 fn answer(rt: &impl System, a: Answer) {
     let mut line = [0u8; 4096];
-    let n = put_answer(&mut line, a);
+    let n = put_answer(&mut line, 0, a, b'\n');
     let _ = say(rt, &line[..n.min(line.len())]);
 }
 
@@ -177,10 +170,8 @@ fn code_and_cause(rt: &impl System, session: Session) {
 // So many samples in CONV with these pulses.
 fn goes_on(rt: &impl System, session: Session, pulses: u16, samples: u16) -> Session {
     let mut going = session;
-    let mut left = samples;
-    while 0 < left {
+    for _ in 0..samples {
         going = reads(rt, going, pulses, 0);
-        left -= 1;
     }
     going
 }

@@ -18,22 +18,25 @@ fn pairs_c() -> Pairs {
     }
 }
 
-fn with_pairs(mut settings: Settings, pairs: Pairs) -> Settings {
-    settings.pairs = pairs;
-    settings
+fn with_pairs(settings: Settings, pairs: Pairs) -> Settings {
+    Settings { pairs, ..settings }
 }
 
 // As a version 1 card has them: functions, X and Y 0.
-fn without_functions(mut settings: Settings) -> Settings {
-    settings.functions = 0;
-    settings.x = 0;
-    settings.y = 0;
-    settings
+fn without_functions(settings: Settings) -> Settings {
+    Settings {
+        functions: 0,
+        x: 0,
+        y: 0,
+        ..settings
+    }
 }
 
-fn with_slow_vmax(mut settings: Settings) -> Settings {
-    settings.vmax = 79;
-    settings
+fn with_slow_vmax(settings: Settings) -> Settings {
+    Settings {
+        vmax: 79,
+        ..settings
+    }
 }
 
 fn opens(rt: &impl System, version: u8, settings: Settings, train: u8) {
@@ -48,11 +51,9 @@ fn opens(rt: &impl System, version: u8, settings: Settings, train: u8) {
 
 // The same settings beside the versions 0 to 4.
 fn opens_beside(rt: &impl System, settings: Settings) {
-    opens(rt, 0, settings, 8);
-    opens(rt, 1, settings, 8);
-    opens(rt, 2, settings, 8);
-    opens(rt, 3, settings, 8);
-    opens(rt, 4, settings, 8);
+    for version in 0..=4 {
+        opens(rt, version, settings, 8);
+    }
 }
 
 // Version 1 has functions 0, at 39; the bytes of pairs, from 44 on, are 0 beside versions 1 and 2, and are not beside version 3.
@@ -85,17 +86,9 @@ fn with_version(mut session: Session, version: u8) -> Session {
     session
 }
 
-fn with_card_pairs(session: Session, pairs: Pairs) -> Session {
-    let settings = session.card.settings;
-    let desk = session.desk;
-    Session {
-        card: Card {
-            version: session.card.version,
-            settings: with_pairs(settings, pairs),
-        },
-        train: session.train,
-        desk: desk,
-    }
+fn with_card_pairs(mut session: Session, pairs: Pairs) -> Session {
+    session.card.settings.pairs = pairs;
+    session
 }
 
 // With the paired limit of 30 km/h standing, of this age.
