@@ -14,7 +14,8 @@
 #![tactic(auto)]
 
 use card::{Pairs, Reading, Row, Settings, Written};
-use leaf::{Refusal, byte_at, choose8, less, long_at, word_at};
+use case_lines::behind;
+use leaf::{Refusal, byte_at, long_at, word_at};
 use shell::System;
 use text::{hex_digit, put, put_float, put_hex, put_labelled, put_refusal, put_text};
 use tone::ToneAnswer;
@@ -23,76 +24,39 @@ const MOST: usize = 256;
 
 // ---- bytes
 
-// The first n bytes, or all where there are fewer.
-fn first(bytes: &[u8], n: u8) -> &[u8] {
-    let i = n as usize;
-    if i < bytes.len() {
-        return &bytes[..i];
-    }
-    bytes
-}
-
-fn first_mut(bytes: &mut [u8], n: u8) -> &mut [u8] {
-    let i = n as usize;
-    if i < bytes.len() {
-        return &mut bytes[..i];
-    }
-    bytes
-}
-
-fn byte_in(bytes: &[u8; MOST], place: u8) -> u8 {
-    byte_at(bytes, place as usize)
-}
-
-fn put_byte(bytes: &mut [u8; MOST], place: u8, value: u8) {
-    let i = place as usize;
-    if i < MOST {
-        bytes[i] = value;
-    }
-}
-
 // A digit behind so many others, where there is room for it: how many there are then.
 fn put_half(bytes: &mut [u8; MOST], halves: usize, digit: u8) -> usize {
     let at = halves / 2;
-    if at < 255 {
-        if digit < 16 {
-            bytes[at] = bytes[at] % 16 * 16 + digit;
-            return halves + 1;
-        }
+    if at < 255 && digit < 16 {
+        bytes[at] = bytes[at] % 16 * 16 + digit;
+        return halves + 1;
     }
     halves
-}
-
-// Where the bytes begin: behind the line's first word.
-fn behind_word(line: &[u8]) -> usize {
-    let mut i = 0;
-    while i < line.len() {
-        if line[i] == b' ' {
-            return i;
-        }
-        i += 1;
-    }
-    i
 }
 
 // The bytes behind the line's first word; what is no hexadecimal digit is passed over. Answers how many there are.
 fn bytes_of(line: &[u8], bytes: &mut [u8; MOST]) -> u8 {
     let mut halves = 0;
-    let mut i = behind_word(line);
-    while i < line.len() {
-        halves = put_half(bytes, halves, hex_digit(line[i]));
-        i += 1;
+    for &b in &line[behind(line, 0, b' ')..] {
+        halves = put_half(bytes, halves, hex_digit(b));
     }
     (halves / 2 % 256) as u8
 }
 
 // ---- what is answered
 
+// Numbers, a blank before each.
+fn put_numbers(out: &mut [u8], at: usize, numbers: &[u32]) -> usize {
+    let mut place = at;
+    for &n in numbers {
+        place = put_labelled(out, place, b" ", n);
+    }
+    place
+}
+
 fn put_row(out: &mut [u8], at: usize, row: Row) -> usize {
-    let at = put_labelled(out, at, b" ", row.initial as u32);
-    let at = put_labelled(out, at, b" ", row.last as u32);
-    let at = put_labelled(out, at, b" ", row.delay as u32);
-    put_labelled(out, at, b" ", row.drop as u32)
+    let numbers = [row.initial, row.last, row.delay, row.drop];
+    put_numbers(out, at, &numbers.map(u32::from))
 }
 
 fn put_rows(out: &mut [u8], at: usize, s: Settings) -> usize {
@@ -106,24 +70,23 @@ fn put_rows(out: &mut [u8], at: usize, s: Settings) -> usize {
     put_row(out, at, s.start)
 }
 
-fn put_three(out: &mut [u8], at: usize, a: u8, b: u16, c: u16) -> usize {
-    let at = put_labelled(out, at, b" ", a as u32);
-    let at = put_labelled(out, at, b" ", b as u32);
-    put_labelled(out, at, b" ", c as u32)
-}
-
 fn put_pairs(out: &mut [u8], at: usize, pairs: Pairs) -> usize {
-    let ten_eleven = pairs.ten_eleven as u16;
-    let eleven_ten = pairs.eleven_ten as u16;
-    let at = put_three(out, at, pairs.ten_ten, ten_eleven, eleven_ten);
-    let at = put_labelled(out, at, b" ", pairs.eleven_eleven as u32);
-    put_labelled(out, at, b" ", pairs.distance as u32)
+    let numbers = [
+        pairs.ten_ten,
+        pairs.ten_eleven,
+        pairs.eleven_ten,
+        pairs.eleven_eleven,
+        pairs.distance,
+    ];
+    put_numbers(out, at, &numbers.map(u32::from))
 }
 
 fn put_settings(out: &mut [u8], at: usize, s: Settings) -> usize {
-    let at = put_three(out, at, s.vmax, s.tick, s.bts as u16);
+    let head = [u32::from(s.vmax), u32::from(s.tick), u32::from(s.bts)];
+    let at = put_numbers(out, at, &head);
     let at = put_rows(out, at, s);
-    let at = put_three(out, at, s.functions, s.x, s.y);
+    let functions = [u32::from(s.functions), u32::from(s.x), u32::from(s.y)];
+    let at = put_numbers(out, at, &functions);
     put_pairs(out, at, s.pairs)
 }
 
@@ -142,13 +105,11 @@ fn put_card(out: &mut [u8], at: usize, area: &[u8], highest: u8) -> usize {
 
 fn put_bytes(out: &mut [u8], at: usize, bytes: &[u8]) -> usize {
     let mut place = put(out, at, b' ');
-    let mut i = 0;
-    while i < bytes.len() {
-        place = put_hex(out, place, bytes[i]);
-        i += 1;
-    }
-    if i == 0 {
+    if bytes.is_empty() {
         return put(out, place, b'-');
+    }
+    for &byte in bytes {
+        place = put_hex(out, place, byte);
     }
     place
 }
@@ -169,7 +130,7 @@ fn put_written(out: &mut [u8], at: usize, version: u8, s: Settings, buffer: &mut
 fn put_reading(out: &mut [u8], at: usize, reading: tone::Reading) -> usize {
     match reading {
         tone::Reading::Beacon(k, offset) => {
-            let at = put_labelled(out, at, b" beacon ", k as u32);
+            let at = put_labelled(out, at, b" beacon ", u32::from(k));
             let at = put_text(out, at, b" ");
             put_float(out, at, offset)
         }
@@ -186,7 +147,7 @@ fn put_tone(out: &mut [u8], at: usize, area: &[u8], bits: u32) -> usize {
     match answer {
         ToneAnswer::Reads(reading) => {
             let at = put_reading(out, at, reading);
-            put_labelled(out, at, b" ", reading.code() as u32)
+            put_labelled(out, at, b" ", u32::from(reading.code()))
         }
         ToneAnswer::Refused(why) => put_refused(out, at, why),
     }
@@ -242,14 +203,18 @@ enum Question {
     Tone(u32),
 }
 
-// What a case says of the area in the first `more` of three bytes: how many of its bytes are meant, and which byte has
-// another value.
+// A byte of the area that has another value.
 #[derive(Clone, Copy)]
-struct Change {
-    more: u32,
-    length: u8,
+struct Byte {
     place: u8,
     value: u8,
+}
+
+// What a case says of the area: how many of its bytes are meant, and which of them has another value.
+#[derive(Clone, Copy)]
+struct Change {
+    length: Option<u8>,
+    byte: Option<Byte>,
 }
 
 fn put_asked(out: &mut [u8], at: usize, area: &[u8], question: Question) -> usize {
@@ -267,14 +232,15 @@ fn put_changed(
     change: Change,
     question: Question,
 ) -> usize {
-    let n = choose8(change.more == 0, length, change.length);
-    if change.more < 3 {
-        return put_asked(out, at, first(area, n), question);
-    }
-    let old = byte_in(area, change.place);
-    put_byte(area, change.place, change.value);
-    let at = put_asked(out, at, first(area, n), question);
-    put_byte(area, change.place, old);
+    let n = usize::from(change.length.unwrap_or(length));
+    let Some(byte) = change.byte else {
+        return put_asked(out, at, &area[..n], question);
+    };
+    let place = usize::from(byte.place);
+    let old = area[place];
+    area[place] = byte.value;
+    let at = put_asked(out, at, &area[..n], question);
+    area[place] = old;
     at
 }
 
@@ -286,15 +252,30 @@ fn tone_asked(case: &[u8; MOST]) -> Question {
     Question::Tone(long_at(case, 0))
 }
 
-// The change that a case of n bytes says behind its first `asked`.
-fn change_at(case: &[u8; MOST], n: u8, asked: u8) -> Change {
-    let i = asked as usize;
-    Change {
-        more: less(n as u32, asked as u32),
-        length: byte_at(case, i),
-        place: byte_at(case, i + 1),
-        value: byte_at(case, i + 2),
+// The change that these bytes say: none of them, one or two, three or more.
+fn change_in(said: &[u8]) -> Change {
+    match *said {
+        [] => Change {
+            length: None,
+            byte: None,
+        },
+        [length, place, value, ..] => Change {
+            length: Some(length),
+            byte: Some(Byte { place, value }),
+        },
+        [length, ..] => Change {
+            length: Some(length),
+            byte: None,
+        },
     }
+}
+
+// That of a case of n bytes, behind those that ask.
+fn change_at(case: &[u8; MOST], n: u8, asked: u8) -> Change {
+    if n < asked {
+        return change_in(&[]);
+    }
+    change_in(&case[usize::from(asked)..usize::from(n)])
 }
 
 fn write_case(out: &mut [u8], at: usize, area: &[u8], case: &[u8; MOST]) -> usize {
@@ -304,7 +285,7 @@ fn write_case(out: &mut [u8], at: usize, area: &[u8], case: &[u8; MOST]) -> usiz
         at,
         case[0],
         settings_in(area),
-        first_mut(&mut buffer, case[1]),
+        &mut buffer[..usize::from(case[1])],
     )
 }
 
@@ -329,7 +310,7 @@ fn put_answer(out: &mut [u8], at: usize, area: &mut [u8; MOST], length: u8, line
             change_at(&case, n, 4),
             tone_asked(&case),
         ),
-        b'w' => write_case(out, at, first(area, length), &case),
+        b'w' => write_case(out, at, &area[..usize::from(length)], &case),
         _ => at,
     }
 }
