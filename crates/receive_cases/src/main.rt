@@ -9,7 +9,7 @@
 // brought here: empty pieces, more than one end, and bytes behind an end.
 #![tactic(auto)]
 
-use case_lines::{behind, unhex};
+use case_lines::{behind, byte_said, unhex};
 use leaf::byte_at;
 use printed::{Columns, Form, print_heading};
 use printed_pieces::{Printed, print_end, print_piece, print_start};
@@ -22,21 +22,14 @@ use text::{put, put_ended, put_labelled, put_text};
 // Where the answers' lines end among a text's first n bytes: where the line begins that has the call's fault, `refused N`, which
 // is no line here but the status behind the call. Of all lines it alone has the letter `r`.
 fn answers_end(text: &[u8], n: usize) -> usize {
-    let mut i = 0;
-    while i < n {
-        if byte_at(text, i) == b'r' {
-            return i;
-        }
-        i += 1;
-    }
-    i
+    first(text, n).iter().position(|&b| b == b'r').unwrap_or(n)
 }
 
 fn put_status(out: &mut [u8], at: usize, status: Status) -> usize {
     match status {
         Status::Open => put_text(out, at, b"open"),
         Status::Ended => put_text(out, at, b"done"),
-        Status::Refused(n) => put_labelled(out, at, b"refused ", n as u32),
+        Status::Refused(n) => put_labelled(out, at, b"refused ", u32::from(n)),
     }
 }
 
@@ -54,18 +47,15 @@ struct Tally {
     mark: u32,
 }
 
-// The first n bytes of a text, behind lines with this mark.
-fn tallied(text: &[u8], n: usize, mark: u32) -> Tally {
-    let mut lines: u32 = 0;
+// A text behind lines with this mark.
+fn tallied(text: &[u8], mark: u32) -> Tally {
+    let mut lines = 0;
     let mut mark = mark;
-    let mut i = 0;
-    while i < n {
-        let byte = byte_at(text, i);
+    for &byte in text {
         if byte == b'\n' {
             lines = lines % 65536 + 1;
         }
-        mark = (mark % 65521 * 31 + byte as u32) % 65521;
-        i += 1;
+        mark = (mark % 65521 * 31 + u32::from(byte)) % 65521;
     }
     Tally { lines, mark }
 }
@@ -101,7 +91,7 @@ fn say_shown(
         say_lines(rt, text, end, status);
         return mark;
     }
-    let tally = tallied(text, end, mark);
+    let tally = tallied(first(text, end), mark);
     say_tally(rt, tally, sign, status);
     tally.mark
 }
@@ -123,8 +113,7 @@ fn say_calls(rt: &impl System, in_full: bool, receiver: Receiver, calls: &[u8]) 
     let mut going = receiver;
     let mut mark: u32 = 0;
     let mut i = 0;
-    let mut left = calls.len();
-    while left > 0 {
+    for _ in 0..calls.len() {
         let piece = unhex(calls, i, &mut space);
         i = piece.next;
         if i >= calls.len() {
@@ -137,7 +126,6 @@ fn say_calls(rt: &impl System, in_full: bool, receiver: Receiver, calls: &[u8]) 
         going = printed.receiver;
         let status = going.status;
         mark = say_shown(rt, in_full, sign, &mut text, printed.length, status, mark);
-        left -= 1;
     }
 }
 
@@ -145,10 +133,7 @@ fn say_calls(rt: &impl System, in_full: bool, receiver: Receiver, calls: &[u8]) 
 
 // The first n bytes, or all where there are fewer.
 fn first(bytes: &[u8], n: usize) -> &[u8] {
-    if n < bytes.len() {
-        return &bytes[..n];
-    }
-    bytes
+    &bytes[..n.min(bytes.len())]
 }
 
 // The calls of a recording in two pieces, the first of so many bytes, and its end.
@@ -179,18 +164,15 @@ fn say_cut(rt: &impl System, receiver: Receiver, digits: &[u8], place: usize) {
 
 // Is the recording cut here. A step of 0, which no case has, is one of 1.
 fn is_cut(place: usize, step: u8) -> bool {
-    let far = step as usize;
-    if far > 0 { place % far == 0 } else { true }
+    step == 0 || place % usize::from(step) == 0
 }
 
 fn say_cuts(rt: &impl System, receiver: Receiver, digits: &[u8], step: u8) {
     let n = digits.len() / 2;
-    let mut place = 0;
-    while place < n {
+    for place in 0..n {
         if is_cut(place, step) {
             say_cut(rt, receiver, digits, place);
         }
-        place += 1;
     }
     say_cut(rt, receiver, digits, n);
 }
@@ -233,12 +215,6 @@ fn start_at(rt: &impl System, way: Way, line: &[u8], from: usize) {
     start(rt, way, &space[..n], h, &line[word..]);
 }
 
-fn step_at(line: &[u8], from: usize) -> u8 {
-    let mut step = [0u8; 1];
-    unhex(line, from, &mut step);
-    byte_at(&step, 0)
-}
-
 fn answer(rt: &impl System, line: &[u8]) {
     let _ = shell::say(rt, line);
     let _ = shell::say(rt, b"\n");
@@ -248,7 +224,7 @@ fn answer(rt: &impl System, line: &[u8]) {
         b'p' => start_at(rt, Way::Pieces, line, next),
         b'c' => start_at(
             rt,
-            Way::Cuts(step_at(line, next)),
+            Way::Cuts(byte_said(line, next)),
             line,
             behind(line, next, b' '),
         ),
