@@ -13,8 +13,8 @@
 #![tactic(auto)]
 
 use card::{Found, card_in};
-use case_lines::{behind, unhex};
-use leaf::{byte_at, choose32};
+use case_lines::{behind, byte_said, put_answer, unhex};
+use leaf::byte_at;
 use printed::{HIGHEST, put_refused};
 use printed_replay::quota_in;
 use rides::recording::samples;
@@ -22,28 +22,9 @@ use rides::replay::{End, Last, Replayed, replay};
 use rides::ride::number_of;
 use session::{Opened, Session};
 use shell::System;
-use step::Answer;
-use text::{hex_digit, put_ended, put_labelled, put_text};
+use text::{put_ended, put_labelled, put_text};
 
 // ---- a line's words
-
-fn one_byte(line: &[u8], from: usize) -> u8 {
-    let mut byte = [0u8; 1];
-    unhex(line, from, &mut byte);
-    byte_at(&byte, 0)
-}
-
-// Where the decimal digits from this place on end.
-fn digits_end(text: &[u8], from: usize) -> usize {
-    let mut i = from;
-    while i < text.len() {
-        if hex_digit(text[i]) > 9 {
-            return i;
-        }
-        i += 1;
-    }
-    i
-}
 
 fn number_said(word: &[u8]) -> u64 {
     let quota = quota_in(word);
@@ -55,28 +36,20 @@ fn number_said(word: &[u8]) -> u64 {
 
 // The decimal number from this place on, 0 where there is none.
 fn number_at(text: &[u8], from: usize) -> u64 {
-    let to = digits_end(text, from);
-    if from <= to {
-        if to <= text.len() {
-            return number_said(&text[from..to]);
-        }
+    let Some(rest) = text.get(from..) else {
+        return 0;
+    };
+    match rest.iter().position(|b| !b.is_ascii_digit()) {
+        Some(end) => number_said(&rest[..end]),
+        None => number_said(rest),
     }
-    0
 }
 
 // ---- a replay's line
 
-fn put_answer(out: &mut [u8], at: usize, a: Answer) -> usize {
-    let at = put_ended(out, at, a.speed, b' ');
-    let at = put_ended(out, at, a.lamps as u32, b' ');
-    let at = put_ended(out, at, a.cause as u32, b' ');
-    let at = put_ended(out, at, a.icon as u32, b' ');
-    put_ended(out, at, choose32(a.limit, 1, 0), b' ')
-}
-
 fn put_last(out: &mut [u8], at: usize, last: Last) -> usize {
     match last {
-        Last::Answered(a) => put_answer(out, at, a),
+        Last::Answered(a) => put_answer(out, at, a, b' '),
         Last::None => put_text(out, at, b"none "),
     }
 }
@@ -86,16 +59,16 @@ fn put_end(out: &mut [u8], at: usize, end: End) -> usize {
         End::Unrefused => put_text(out, at, b"done\n"),
         End::Refused(n) => put_refused(out, at, n),
         End::RefusedAt(n, position) => {
-            let at = put_labelled(out, at, b"refused ", n as u32);
+            let at = put_labelled(out, at, b"refused ", u32::from(n));
             let at = put_text(out, at, b" at ");
-            put_ended(out, at, position as u32, b'\n')
+            put_ended(out, at, u32::from(position), b'\n')
         }
     }
 }
 
 fn say_line(rt: &impl System, ran: u16, last: Last, end: End) {
     let mut line = [0u8; 4096];
-    let at = put_ended(&mut line, 0, ran as u32, b' ');
+    let at = put_ended(&mut line, 0, u32::from(ran), b' ');
     let at = put_last(&mut line, at, last);
     let n = put_end(&mut line, at, end);
     let _ = shell::say(rt, &line[..n.min(line.len())]);
@@ -122,8 +95,7 @@ fn say_replay(
 fn say_calls(rt: &impl System, session: Session, recording: &[u8], calls: &[u8]) {
     let mut going = session;
     let mut i = 0;
-    let mut left = calls.len();
-    while left > 0 {
+    for _ in 0..calls.len() {
         if i >= calls.len() {
             return;
         }
@@ -132,7 +104,6 @@ fn say_calls(rt: &impl System, session: Session, recording: &[u8], calls: &[u8])
         let replayed = say_replay(rt, going, recording, place, quota);
         going = replayed.session;
         i = behind(calls, i, b',');
-        left -= 1;
     }
 }
 
@@ -140,17 +111,21 @@ fn say_calls(rt: &impl System, session: Session, recording: &[u8], calls: &[u8])
 
 // So many samples, and from where they ended so many more.
 fn say_split(rt: &impl System, session: Session, recording: &[u8], first: u16, second: u16) {
-    let replayed = say_replay(rt, session, recording, 0, first as u64);
+    let replayed = say_replay(rt, session, recording, 0, u64::from(first));
     let after = replayed.session;
-    say_replay(rt, after, recording, replayed.ran as u64, second as u64);
+    say_replay(
+        rt,
+        after,
+        recording,
+        u64::from(replayed.ran),
+        u64::from(second),
+    );
 }
 
 fn say_splits(rt: &impl System, session: Session, recording: &[u8]) {
     let n = samples(recording);
-    let mut k: u16 = 0;
-    while k < n {
+    for k in 0..n {
         say_split(rt, session, recording, k, n - k);
-        k += 1;
     }
     say_split(rt, session, recording, n, 0);
 }
@@ -216,12 +191,12 @@ fn answer(rt: &impl System, line: &[u8]) {
     let _ = shell::say(rt, b"\n");
     let first = behind(line, 0, b' ');
     let second = behind(line, first, b' ');
-    let train = one_byte(line, first);
+    let train = byte_said(line, first);
     let kind = byte_at(line, 0);
     match kind {
         b'r' => start_at(
             rt,
-            Way::Calls(one_byte(line, second)),
+            Way::Calls(byte_said(line, second)),
             train,
             line,
             behind(line, second, b' '),
