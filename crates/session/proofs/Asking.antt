@@ -5,17 +5,15 @@ use Prim.Native.Nat.{ℕ}
 use Rattle.card.specs.declared.Card.{Card}
 use Rattle.desk.specs.declared.state.Desk.{Desk}
 use Rattle.step.specs.declared.Input.{Input}
-use Rattle.leaf.specs.declared.Refusal.TheVariants.{Number}
+use Rattle.std.specs.Prelude.{Ok, Err}
+use Rattle.leaf.specs.Answers.{numbered_refusal}
 use Rattle.step.specs.Brake.{braked}
 use Rattle.step.specs.Speed.{supervised_of}
 use Rattle.step.specs.Reason.{reason_of}
 use Rattle.step.specs.Step.{judged_of, step_of}
 use Rattle.session.specs.declared.Sample.{Sample}
 use Rattle.session.specs.declared.Session.{Session}
-use Rattle.session.specs.declared.Outcome.{Outcome}
-use Rattle.session.specs.declared.Outcome.TheVariants as outcome
-use Rattle.session.specs.declared.Told.TheVariants as told
-use Rattle.session.specs.Session.{refused_by, carried, stepped, ran_of, sample_of}
+use Rattle.session.specs.Session.{Outcome, refused_by, carried, stepped, ran_of, sample_of}
 use Rattle.session.specs.Runs.{accepted}
 use Rattle.session.specs.Why.{why_now, explained_of, asked_of, asked_from, sampled_from}
 use Rattle.session.proofs.Runs.{accepted_runs, refused_stays}
@@ -30,7 +28,7 @@ module _ (s : Session) (x : Sample) where
   unfolding asked_of ran_of why_now
   asked_accepted h = rw (accepted_runs s x h, named_after)
 
-  pub asked_refused : accepted s x ≡ false → record { session = s; told = told.Refused (Number (refused_by s x)) } ≡ asked_of s x
+  pub asked_refused : accepted s x ≡ false → record { session = s; told = Err (numbered_refusal (refused_by s x)) } ≡ asked_of s x
   unfolding asked_of
   asked_refused h = rw (refused_stays s x h)
 
@@ -40,5 +38,5 @@ module _ (s : Session) (x : Sample) where
   asked_sampled = cases (sample_of s x).session (sample_of s x).outcome
     where
       cases : (t : Session) (o : Outcome) → sampled_from (explained_of t o).session (explained_of t o).told ≡ record { session = t; outcome = o }
-      cases t (outcome.Answered a) = refl
-      cases t (outcome.Refused why) = refl
+      cases t (Ok a) = refl
+      cases t (Err why) = refl

@@ -1,23 +1,19 @@
 -- 02 g: opening "2, 5, 7" (g4): what opening gives, and exactly when.
 use Prim.Native.Nat.{ℕ}
-use mathlib.Core.Path.{◌≡◌, refl, sym}
-use mathlib.Core.Bool.{Bool, true, false, ◌&&◌, not, false≢true}
+use mathlib.Core.Path.{◌≡◌, refl}
+use mathlib.Core.Bool.{Bool, true, false, ◌&&◌}
 use mathlib.Core.Logic.{◌⊎◌, inl, inr}
 use native.Mathlib.Omega.{arith}
 use lib.Dec.{eqb}
 use Rattle.leaf.specs.Choosing.{pick}
-use Rattle.leaf.specs.Answers.{Answer, given, refused, refused_at, is_given, refusal_of}
-use Rattle.leaf.specs.declared.Refusal.{Refusal}
-use Rattle.leaf.specs.declared.Refusal.TheVariants.{Number, At}
+use Rattle.leaf.specs.Answers.{Answer, given, refused, refused_at, is_given}
 use Rattle.card.specs.declared.Card.{Card}
 use Rattle.card.specs.declared.Settings.{Settings}
 use Rattle.card.specs.Card.{known}
 use Rattle.card.specs.Ranges.{fault_of, in_range, check_settings}
 use Rattle.session.specs.declared.Session.{Session}
-use Rattle.session.specs.declared.Judged.{Judged}
-use Rattle.session.specs.declared.Judged.TheVariants as judged
 use Rattle.session.specs.Types.{type_allowed}
-use Rattle.session.specs.Session.{fresh_session, judged_of, judge_card, opened_after, open_session, card_inside}
+use Rattle.session.specs.Session.{fresh_session, judge_card, opened_after, open_session, card_inside}
 
 -- 5 comes with its place
 check_placed : (version : ℕ) (s : Settings) (n : ℕ) → check_settings version s ≡ refused n → ⊥
@@ -113,32 +109,11 @@ module _ (card : Card) (train : ℕ) where
       judged (refused m) h = cc
       judged (refused_at m p) h = cc
 
--- ---- how the code comes to it
-
-module _ (card : Card) where
-  -- by a test of the version
-  pub judges_unknown : (t : Bool) → t ≡ known card.version → not t ≡ true → refused 2 ≡ judge_card card
-  judges_unknown true e h = absurd (false≢true h)
-  judges_unknown false e h = sym (judged_unknown card (sym e))
-
-  pub judges_known : (t : Bool) → t ≡ known card.version → not t ≡ false → check_settings card.version card.settings ≡ judge_card card
-  judges_known true e h = sym (judged_known card (sym e))
-  judges_known false e h = absurd (false≢true (sym h))
-
-  -- as a bool
-  pub judges_inside : (known card.version && is_given (check_settings card.version card.settings)) ≡ card_inside card
-  unfolding card_inside judge_card
-  judges_inside = cases (known card.version) (check_settings card.version card.settings)
-    where
-      cases : (t : Bool) (a : Answer Unit) → (t && is_given a) ≡ is_given (pick t a (refused 2))
-      cases true a = refl
-      cases false a = refl
-
-  -- a card that is refused opens no session
-  pub opens_refused : (train : ℕ) (why : Refusal) → refusal_of why ≡ judge_card card → refusal_of why ≡ open_session card train
-  unfolding open_session
-  opens_refused train (Number n) h = rw (← h)
-  opens_refused train (At n place) h = rw (← h)
-
-  pub opens_by : (train : ℕ) (j : Judged) (why : Refusal) → j ≡ judged.Refused why → judged_of j ≡ judge_card card → refusal_of why ≡ open_session card train
-  opens_by train j why e h = opens_refused train why (rw e at h)
+-- the judgement as a bool
+pub judges_inside : (card : Card) → (known card.version && is_given (check_settings card.version card.settings)) ≡ card_inside card
+unfolding card_inside judge_card
+judges_inside card = cases (known card.version) (check_settings card.version card.settings)
+  where
+    cases : (t : Bool) (a : Answer Unit) → (t && is_given a) ≡ is_given (pick t a (refused 2))
+    cases true a = refl
+    cases false a = refl

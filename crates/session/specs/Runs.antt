@@ -3,8 +3,7 @@
 use Rattle.std.specs.Prelude.{Bool, true, ◌&&◌, List, [], ◌∷◌, eqb}
 use Rattle.session.specs.declared.Sample.{Sample}
 use Rattle.session.specs.declared.Session.{Session}
-use Rattle.session.specs.declared.Outcome.{Outcome}
-use Rattle.session.specs.Session.{refused_by, sample_of}
+use Rattle.session.specs.Session.{Outcome, refused_by, sample_of}
 
 -- no refusal is due
 abbrev pub accepted : Session → Sample → Bool

@@ -1,10 +1,10 @@
 -- Document 01, "The sample": the session, its opening, and a sample with its refusals.
-use Rattle.std.specs.Prelude.{ℕ, ◌*◌, Bool, ◌&&◌, ◌||◌, List, [], ◌∷◌, leb, eqb}
+use Rattle.std.specs.Prelude.{ℕ, ◌*◌, Bool, ◌&&◌, ◌||◌, List, [], ◌∷◌, Result, Ok, Err, leb, eqb}
 use Rattle.leaf.specs.Choosing.{pick}
 use Rattle.leaf.specs.Numbers.{code_top, buttons_top}
 use Rattle.leaf.specs.Checks.{Check, first_bad}
-use Rattle.leaf.specs.Answers.{Answer, given, refused, refused_at, is_given, refusal_of}
-use Rattle.leaf.specs.declared.Refusal.TheVariants.{Number}
+use Rattle.leaf.specs.Answers.{Answer, given, refused, refused_at, is_given, on_paper, numbered_refusal}
+use Rattle.leaf.specs.declared.refusal.Refusal.{Refusal}
 use Rattle.card.specs.declared.Card.{Card}
 use Rattle.card.specs.Card.{known}
 use Rattle.card.specs.Ranges.{check_settings}
@@ -20,13 +20,11 @@ use Rattle.step.specs.Step.{step_of}
 use Rattle.session.specs.Types.{type_speed, type_allowed}
 use Rattle.session.specs.declared.Sample.{Sample}
 use Rattle.session.specs.declared.Session.{Session}
-use Rattle.session.specs.declared.Judged.{Judged}
-use Rattle.session.specs.declared.Judged.TheVariants as judged
-use Rattle.session.specs.declared.Opened.{Opened}
-use Rattle.session.specs.declared.Opened.TheVariants as opened
-use Rattle.session.specs.declared.Outcome.{Outcome}
-use Rattle.session.specs.declared.Outcome.TheVariants as outcome
 use Rattle.session.specs.declared.Sampled.{Sampled}
+
+-- what a sample is answered with
+abbrev pub Outcome : Type 0
+Outcome = Result Told Refusal
 
 -- ---- a session
 
@@ -47,14 +45,12 @@ with_desk desk s = record { card = s.card; train = s.train; desk = desk }
 -- does (2, then 5)": "2, 5, 7" (g4)
 
 -- what each case of opening's answer is on paper
-abbrev pub opened_of : Opened → Answer Session
-opened_of (opened.Ready s) = given s
-opened_of (opened.Refused r) = refusal_of r
+abbrev pub opened_of : Result Session Refusal → Answer Session
+opened_of = on_paper
 
 -- what each case of a card's judgement is on paper
-abbrev pub judged_of : Judged → Answer Unit
-judged_of judged.Fine = given tt
-judged_of (judged.Refused why) = refusal_of why
+abbrev pub judged_of : Result Unit Refusal → Answer Unit
+judged_of = on_paper
 
 -- the version judged, then the settings beside it
 unfoldable pub judge_card : Card → Answer Unit
@@ -84,19 +80,31 @@ inside_of s = card_inside s.card && type_allowed s.train s.card.settings.vmax &&
 abbrev pub in_bts : ℕ → Bool
 in_bts mode = eqb mode 2
 
+-- 9: "beacon, buttons or mode" are in range
+abbrev pub codes_fit : Sample → Bool
+codes_fit x = leb x.beacon code_top && leb x.buttons buttons_top && leb 1 x.mode && leb x.mode 2
+
+-- 11: the mode is the session's, or the train is at standstill
+abbrev pub mode_fits : Session → Sample → Bool
+mode_fits s x = same_mode s.desk.bts (in_bts x.mode) || standstill x.pulses s.desk.brake
+
 -- 8 "session out of its ranges", 9 "beacon, buttons or mode out of range", 02 c: "9 from code 13", 10 "pulses × tick length above 100,000",
 -- 11 "mode changed", where document 01's "in a sample with pulses" gives way to 02 b: "11 now reads "while not at standstill""
 abbrev pub sample_checks : Session → Sample → List Check
 sample_checks s x =
     (8, inside_of s)
-    ∷ (9, leb x.beacon code_top && leb x.buttons buttons_top && leb 1 x.mode && leb x.mode 2)
+    ∷ (9, codes_fit x)
     ∷ (10, leb (x.pulses * s.card.settings.tick) 100000)
-    ∷ (11, same_mode s.desk.bts (in_bts x.mode) || standstill x.pulses s.desk.brake)
+    ∷ (11, mode_fits s x)
     ∷ []
 
 -- the number of the refusal, 0 where the sample is accepted
 unfoldable pub refused_by : Session → Sample → ℕ
 refused_by s x = first_bad 0 (sample_checks s x)
+
+-- nothing where it is accepted, or that refusal
+unfoldable pub accepted_as : Session → Sample → Result Unit Refusal
+accepted_as s x = pick (eqb (refused_by s x) 0) (Ok tt) (Err (numbered_refusal (refused_by s x)))
 
 -- "m = pulses × tick length is the speed in mm/s and the travel in tenths of a millimetre.": what the desk takes of an accepted sample
 abbrev pub carried : Session → Sample → Input
@@ -111,7 +119,7 @@ carried s x =
 
 -- "The session is handed in and handed back with each sample's answer.": with the desk of its step
 abbrev pub sampled_as : Session → Stepped → Sampled
-sampled_as s e = record { session = with_desk e.desk s; outcome = outcome.Answered e.answer }
+sampled_as s e = record { session = with_desk e.desk s; outcome = Ok e.answer }
 
 -- the step of the session's desk, T being that of its train type
 abbrev pub stepped : Session → Input → Stepped
@@ -124,14 +132,13 @@ ran_of s x = sampled_as s (stepped s (carried s x))
 -- "A refusal returns its number .. and leaves .. the handed-in session unchanged."
 unfoldable pub sample_of : Session → Sample → Sampled
 sample_of s x =
-    pick (eqb (refused_by s x) 0) (ran_of s x) (record { session = s; outcome = outcome.Refused (Number (refused_by s x)) })
+    pick (eqb (refused_by s x) 0) (ran_of s x) (record { session = s; outcome = Err (numbered_refusal (refused_by s x)) })
 
 -- ---- the same on paper
 
 -- what each case of a sample's outcome is on paper
 abbrev pub outcome_of : Outcome → Answer Told
-outcome_of (outcome.Answered a) = given a
-outcome_of (outcome.Refused why) = refusal_of why
+outcome_of = on_paper
 
 -- what a sample is answered with: the answer of its step, or the number of its refusal
 unfoldable pub answer_to : Session → Sample → Answer Told

@@ -1,6 +1,7 @@
 -- Document 02 f), "Why is it forty?": "For any session and sample, a tool names which standing limit sets S .., its value and age (0 for the first
 -- three), and for a braked desk the cause and how many samples ago the brake came on."
-use Rattle.std.specs.Prelude.{◌*◌}
+use Rattle.std.specs.Prelude.{◌*◌, Result, Ok, Err}
+use Rattle.leaf.specs.declared.refusal.Refusal.{Refusal}
 use Rattle.desk.specs.declared.brake.Brake.{Brake}
 use Rattle.step.specs.declared.Stepped.{Stepped}
 use Rattle.step.specs.declared.speed.Standing.{Standing}
@@ -8,14 +9,15 @@ use Rattle.step.specs.Reason.{reason_of}
 use Rattle.session.specs.declared.Sample.{Sample}
 use Rattle.session.specs.declared.Session.{Session}
 use Rattle.session.specs.declared.Sampled.{Sampled}
-use Rattle.session.specs.declared.Outcome.{Outcome}
-use Rattle.session.specs.declared.Outcome.TheVariants as outcome
 use Rattle.session.specs.declared.Why.{Why}
-use Rattle.session.specs.declared.Told.{Told}
-use Rattle.session.specs.declared.Told.TheVariants as told
+use Rattle.session.specs.declared.Reasoned.{Reasoned}
 use Rattle.session.specs.declared.Asked.{Asked}
 use Rattle.session.specs.Types.{type_speed}
-use Rattle.session.specs.Session.{with_desk, sample_of}
+use Rattle.session.specs.Session.{Outcome, with_desk, sample_of}
+
+-- what is told of a sample
+abbrev pub Told : Type 0
+Told = Result Reasoned Refusal
 
 -- ---- why
 
@@ -34,8 +36,8 @@ why_now s = why_from (named_in s) s.desk.brake
 
 -- in the session after it; "Refusals: as for the sample itself."
 abbrev pub explained_of : Session → Outcome → Asked
-explained_of s (outcome.Answered a) = record { session = s; told = told.Reasoned (record { answer = a; why = why_now s }) }
-explained_of s (outcome.Refused why) = record { session = s; told = told.Refused why }
+explained_of s (Ok a) = record { session = s; told = Ok (record { answer = a; why = why_now s }) }
+explained_of s (Err why) = record { session = s; told = Err why }
 
 -- "The sample is run; the reason is that of its answer's S, at the sample's end." (f1)
 unfoldable pub asked_of : Session → Sample → Asked
@@ -48,9 +50,9 @@ abbrev pub asked_from : Session → Stepped → Asked
 asked_from s e =
     record {
       session = with_desk e.desk s;
-      told = told.Reasoned (record { answer = e.answer; why = why_from e.named e.desk.brake });
+      told = Ok (record { answer = e.answer; why = why_from e.named e.desk.brake });
     }
 
 abbrev pub sampled_from : Session → Told → Sampled
-sampled_from s (told.Reasoned r) = record { session = s; outcome = outcome.Answered r.answer }
-sampled_from s (told.Refused why) = record { session = s; outcome = outcome.Refused why }
+sampled_from s (Ok r) = record { session = s; outcome = Ok r.answer }
+sampled_from s (Err why) = record { session = s; outcome = Err why }

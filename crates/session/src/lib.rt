@@ -7,14 +7,14 @@
 
 ghost use Rattle.std.specs.Prelude.{◌≡◌, ◌*◌};
 ghost use Rattle.session.specs.Types.{type_speed, type_allowed};
-ghost use Rattle.session.specs.Session.{fresh_session, opened_of, judged_of, judge_card, open_session, card_inside, inside_of, refused_by, carried, stepped, sample_of, outcome_of, answer_to};
+ghost use Rattle.session.specs.Session.{fresh_session, opened_of, judged_of, judge_card, open_session, card_inside, inside_of, codes_fit, mode_fits, accepted_as, carried, stepped, sample_of, outcome_of, answer_to};
 ghost use Rattle.session.specs.Why.{why_from, why_now, asked_from, asked_of, sampled_from};
 
-use card::{Card, Checked, check, is_in_range, is_known};
+use card::{Card, check, is_in_range, is_known};
 use desk::brake::Brake;
 use desk::ranges::desk_inside;
 use desk::state::Desk;
-use leaf::{BUTTONS_TOP, CODE_TOP, Refusal, or_fault};
+use leaf::{BUTTONS_TOP, CODE_TOP, Refusal, ensure};
 use step::speed::{Reason, Standing, reason_at};
 use step::{Answer, Input, step};
 
@@ -27,6 +27,15 @@ pub struct Sample {
     pub mode: u8,
 }
 
+impl Sample {
+    // Are beacon, buttons and mode in range.
+    fn is_in_range(self) -> bool
+        ensures { result ≡ codes_fit self }
+    {
+        self.beacon <= CODE_TOP && self.buttons <= BUTTONS_TOP && 1 <= self.mode && self.mode <= 2
+    }
+}
+
 // The card is what was handed in at the opening, its version and settings.
 #[derive(Clone, Copy)]
 pub struct Session {
@@ -35,25 +44,11 @@ pub struct Session {
     pub desk: Desk,
 }
 
-// What opening gives.
-#[derive(Clone, Copy)]
-pub enum Opened {
-    Ready(Session),
-    Refused(Refusal),
-}
-
-// What a sample is answered with.
-#[derive(Clone, Copy)]
-pub enum Outcome {
-    Answered(Answer),
-    Refused(Refusal),
-}
-
 // The session after a sample, beside what it is answered with; where it is refused, the session handed in.
 #[derive(Clone, Copy)]
 pub struct Sampled {
     pub session: Session,
-    pub outcome: Outcome,
+    pub outcome: Result<Answer, Refusal>,
 }
 
 // Why S is what it is: the value, hundredths of km/h, and age of the limit that sets it; the cause that stands (0: the brake is off), and how
@@ -74,26 +69,19 @@ pub struct Reasoned {
     pub why: Why,
 }
 
-#[derive(Clone, Copy)]
-pub enum Told {
-    Reasoned(Reasoned),
-    Refused(Refusal),
-}
-
 // The session after a sample, beside what is told of it; where it is refused, the session handed in.
 #[derive(Clone, Copy)]
 pub struct Asked {
     pub session: Session,
-    pub told: Told,
+    pub told: Result<Reasoned, Refusal>,
 }
 
 // Of the limit that sets S, and the brake.
 fn why_from(named: Standing, brake: Brake) -> Why
     ensures { result ≡ why_from named brake }
 {
-    let reason = named.reason;
     Why {
-        reason: reason,
+        reason: named.reason,
         speed: named.speed,
         age: named.age,
         cause: brake.cause,
@@ -101,22 +89,15 @@ fn why_from(named: Standing, brake: Brake) -> Why
     }
 }
 
-// What is told, without the reason.
-fn answered(session: Session, told: Told) -> Sampled
-    ensures { result ≡ sampled_from session told }
-{
-    match told {
-        Told::Reasoned(reasoned) => {
-            let answer = reasoned.answer;
-            Sampled {
-                session: session,
-                outcome: Outcome::Answered(answer),
-            }
+impl Asked {
+    // What is told, without the reason.
+    fn answered(self) -> Sampled
+        ensures { result ≡ sampled_from self.session self.told }
+    {
+        Sampled {
+            session: self.session,
+            outcome: self.told.map(|reasoned| reasoned.answer),
         }
-        Told::Refused(why) => Sampled {
-            session: session,
-            outcome: Outcome::Refused(why),
-        },
     }
 }
 
@@ -143,31 +124,16 @@ pub fn type_speed(train: u8) -> u8
 pub fn type_allowed(train: u8, vmax: u8) -> bool
     ensures { result ≡ type_allowed train vmax }
 {
-    (1 <= train) & (train <= 8) & (type_speed(train) <= vmax)
-}
-
-// What a card is judged as, before there is a train type.
-#[derive(Clone, Copy)]
-pub enum Judged {
-    Fine,
-    Refused(Refusal),
+    1 <= train && train <= 8 && type_speed(train) <= vmax
 }
 
 // Is the card's version known, and are the settings beside it in range: refusal 2, then 5 with its place, as the writer gives them.
 #[tactic(auto, unfolding(crate::specs::Session::judge_card))]
-pub fn judge(card: Card) -> Judged
+pub fn judge(card: Card) -> Result<(), Refusal>
     ensures { judged_of result ≡ judge_card card }
 {
-    let settings = card.settings;
-    let known = is_known(card.version);
-    if !known {
-        return Judged::Refused(Refusal::Number(2));
-    }
-    let checked = check(card.version, settings);
-    match checked {
-        Checked::FaultAt(place) => Judged::Refused(Refusal::At(5, place)),
-        Checked::InRange => Judged::Fine,
-    }
+    ensure(is_known(card.version), Refusal::NoSuchVersion)?;
+    check(card.version, card.settings)
 }
 
 // Would opening judge it so.
@@ -175,8 +141,7 @@ pub fn judge(card: Card) -> Judged
 fn card_inside(card: Card) -> bool
     ensures { result ≡ card_inside card }
 {
-    let settings = card.settings;
-    is_known(card.version) & is_in_range(card.version, settings)
+    is_known(card.version) && is_in_range(card.version, card.settings)
 }
 
 impl Session {
@@ -185,30 +150,20 @@ impl Session {
         ensures { result ≡ fresh_session card train }
     {
         Session {
-            card: card,
-            train: train,
+            card,
+            train,
             desk: Desk::fresh(),
         }
     }
 
     // Opens a session from a card and a train type: refusal 2, then 5 with its place, then 7.
     #[tactic(auto, unfolding(crate::specs::Session::open_session))]
-    pub fn open(card: Card, train: u8) -> Opened
+    pub fn open(card: Card, train: u8) -> Result<Session, Refusal>
         ensures { opened_of result ≡ open_session card train }
     {
-        let settings = card.settings;
-        let judged = judge(card);
-        let allowed = type_allowed(train, settings.vmax);
-        match judged {
-            Judged::Refused(why) => Opened::Refused(why),
-            Judged::Fine => {
-                if allowed {
-                    Opened::Ready(Session::fresh(card, train))
-                } else {
-                    Opened::Refused(Refusal::Number(7))
-                }
-            }
-        }
+        judge(card)?;
+        ensure(type_allowed(train, card.settings.vmax), Refusal::WrongTrain)?;
+        Ok(Session::fresh(card, train))
     }
 
     // Is every number of the session in its range.
@@ -216,41 +171,42 @@ impl Session {
     pub fn is_inside(self) -> bool
         ensures { result ≡ inside_of self }
     {
-        let card = self.card;
-        let settings = card.settings;
-        let desk = self.desk;
-        card_inside(card) & type_allowed(self.train, settings.vmax) & desk_inside(desk)
+        card_inside(self.card)
+            && type_allowed(self.train, self.card.settings.vmax)
+            && desk_inside(self.desk)
     }
 
-    // The number that refuses the sample, 0 where it is accepted.
-    #[tactic(auto, unfolding(crate::specs::Session::refused_by))]
-    fn refusal(self, x: Sample) -> u8
-        ensures { result ≡ refused_by self x }
+    // The travel of a sample, in tenths of a millimetre.
+    fn travel(self, x: Sample) -> u32
+        ensures { result ≡ x.pulses * self.card.settings.tick }
     {
-        let settings = self.card.settings;
-        let desk = self.desk;
-        let inside = self.is_inside();
-        let m = leaf::travel(x.pulses, settings.tick);
-        let brake = desk.brake;
-        let bts = x.mode == 2;
-        let same = (desk.bts & bts) | (!desk.bts & !bts);
-        let fields = (x.beacon <= CODE_TOP)
-            & (x.buttons <= BUTTONS_TOP)
-            & (1 <= x.mode)
-            & (x.mode <= 2);
-        let n = or_fault(0, 8, inside);
-        let n = or_fault(n, 9, fields);
-        let n = or_fault(n, 10, m <= 100000);
-        or_fault(n, 11, same | brake.at_standstill(x.pulses))
+        leaf::travel(x.pulses, self.card.settings.tick)
+    }
+
+    // Is the mode kept, or the train at standstill.
+    fn keeps_mode(self, x: Sample) -> bool
+        ensures { result ≡ mode_fits self x }
+    {
+        self.desk.bts == (x.mode == 2) || self.desk.brake.at_standstill(x.pulses)
+    }
+
+    // Is the sample accepted; else the first refusal that is due.
+    #[tactic(auto, using(crate::proofs::Numbers::accepted_chain))]
+    fn accept(self, x: Sample) -> Result<(), Refusal>
+        ensures { result ≡ accepted_as self x }
+    {
+        ensure(self.is_inside(), Refusal::SessionOutOfRange)?;
+        ensure(x.is_in_range(), Refusal::SampleOutOfRange)?;
+        ensure(self.travel(x) <= 100_000, Refusal::TooFast)?;
+        ensure(self.keeps_mode(x), Refusal::ModeWhileMoving)
     }
 
     // What the desk takes of an accepted sample.
     fn carry(self, x: Sample) -> Input
         ensures { result ≡ carried self x }
     {
-        let tick = self.card.settings.tick;
         Input {
-            m: leaf::travel(x.pulses, tick),
+            m: self.travel(x),
             pulses: x.pulses,
             beacon: x.beacon,
             buttons: x.buttons,
@@ -262,41 +218,29 @@ impl Session {
     fn run(self, x: Input) -> Asked
         ensures { result ≡ asked_from self (stepped self x) }
     {
-        let card = self.card;
-        let desk = self.desk;
         let top = leaf::hundredths(type_speed(self.train));
-        let stepped = step(desk, card, top, x);
+        let stepped = step(self.desk, self.card, top, x);
         let next = stepped.desk;
-        let answer = stepped.answer;
-        let named = stepped.named;
-        let brake = next.brake;
         Asked {
-            session: Session {
-                card: card,
-                train: self.train,
-                desk: next,
-            },
-            told: Told::Reasoned(Reasoned {
-                answer: answer,
-                why: why_from(named, brake),
+            session: Session { desk: next, ..self },
+            told: Ok(Reasoned {
+                answer: stepped.answer,
+                why: why_from(stepped.named, next.brake),
             }),
         }
     }
 
     // One sample, and why its answer's S is what it is.
-    #[tactic(auto, using(crate::proofs::Asking::asked_accepted, crate::proofs::Asking::asked_refused))]
+    #[tactic(auto, using(crate::proofs::Asking::asked_accepted, crate::proofs::Asking::asked_refused), unfolding(crate::specs::Session::accepted_as))]
     pub fn ask(self, x: Sample) -> Asked
         ensures { result ≡ asked_of self x }
     {
-        let number = self.refusal(x);
-        let accepted = number == 0;
-        if accepted {
-            self.run(self.carry(x))
-        } else {
-            Asked {
+        match self.accept(x) {
+            Ok(()) => self.run(self.carry(x)),
+            Err(why) => Asked {
                 session: self,
-                told: Told::Refused(Refusal::Number(number)),
-            }
+                told: Err(why),
+            },
         }
     }
 
@@ -306,10 +250,7 @@ impl Session {
         ensures value { result ≡ sample_of self x }
         ensures outcome_value { outcome_of result.outcome ≡ answer_to self x }
     {
-        let asked = self.ask(x);
-        let session = asked.session;
-        let told = asked.told;
-        answered(session, told)
+        self.ask(x).answered()
     }
 
     // Why S is what it is in this session, as the last sample left it.
@@ -317,10 +258,10 @@ impl Session {
     pub fn why_now(self) -> Why
         ensures { result ≡ why_now self }
     {
-        let settings = self.card.settings;
-        let desk = self.desk;
-        let brake = desk.brake;
         let top = leaf::hundredths(type_speed(self.train));
-        why_from(reason_at(desk, settings, top), brake)
+        why_from(
+            reason_at(self.desk, self.card.settings, top),
+            self.desk.brake,
+        )
     }
 }
