@@ -4,20 +4,20 @@ use native.Mathlib.Omega.{arith}
 use mathlib.Core.Path.{◌≡◌, refl, sym, ◌∙◌}
 use mathlib.Core.Bool.{Bool, true, false, ◌&&◌, ◌||◌}
 use mathlib.Core.Logic.{◌⊎◌, inl, inr, ◌↔◌}
-use mathlib.Core.List.{[], ◌∷◌}
 use lib.Dec.{leb, eqb}
 use borrow.Author.Tests.{le-leb, leb-true, leb-false, lt-leb, eqb-true, eqb-false, ne_eqb}
+use Rattle.std.specs.Prelude.{Err}
 use Rattle.leaf.specs.Choosing.{pick, and_split}
 use Rattle.leaf.specs.Numbers.{code_top, buttons_top}
-use Rattle.leaf.specs.Checks.{first_bad, or_fault, FirstFault, first_fault}
-use Rattle.leaf.specs.declared.Refusal.TheVariants.{Number}
+use Rattle.leaf.specs.Checks.{FirstFault, first_fault}
+use Rattle.leaf.specs.Answers.{numbered_refusal}
 use Rattle.desk.specs.declared.brake.Brake.{Brake}
 use Rattle.desk.specs.Brake.{standstill}
 use Rattle.desk.specs.Clock.{same_mode}
 use Rattle.session.specs.declared.Sample.{Sample}
 use Rattle.session.specs.declared.Session.{Session}
-use Rattle.session.specs.declared.Outcome.TheVariants.{Refused}
-use Rattle.session.specs.Session.{inside_of, in_bts, sample_checks, refused_by, ran_of, sample_of}
+use Rattle.session.specs.Session.{inside_of, in_bts, codes_fit, sample_checks, refused_by, ran_of, sample_of}
+use Rattle.session.proofs.Numbers.{verdict, by_tests}
 use Rattle.step_laws.specs.Brake.{AtStandstill}
 use Rattle.step_laws.proofs.Choosing.{not_so}
 use Rattle.step_laws.proofs.Brake.{standstill_as}
@@ -37,10 +37,7 @@ outside_only s h i = apart (inside_of s) (inside_when s i) h
 outside_when : (s : Session) → (Inside s → ⊥) → inside_of s ≡ false
 outside_when s h = not_so (inside_of s) (λ e. h (inside_only s e))
 
-abbrev codes_test : Sample → Bool
-codes_test x = leb x.beacon code_top && leb x.buttons buttons_top && leb 1 x.mode && leb x.mode 2
-
-codes_only : (x : Sample) → codes_test x ≡ true → CodesMet x
+codes_only : (x : Sample) → codes_fit x ≡ true → CodesMet x
 codes_only x h =
     let a = and_split (leb x.beacon code_top && leb x.buttons buttons_top && leb 1 x.mode) (leb x.mode 2) h in
     let b = and_split (leb x.beacon code_top && leb x.buttons buttons_top) (leb 1 x.mode) a.0 in
@@ -52,7 +49,7 @@ codes_only x h =
       mode_high = leb-true x.mode 2 a.1;
     }
 
-codes_when : (x : Sample) → CodesMet x → codes_test x ≡ true
+codes_when : (x : Sample) → CodesMet x → codes_fit x ≡ true
 codes_when x m =
     rw (le-leb x.beacon code_top m.beacon_high, le-leb x.buttons buttons_top m.buttons_high, le-leb 1 x.mode m.mode_low, le-leb x.mode 2 m.mode_high)
 
@@ -82,18 +79,6 @@ mode_when bts pulses brake mode (inr e) = rw ((standstill_as pulses brake).1 e) 
     cases false = refl
 
 -- ---- the order
-
--- the first of four tests that fails gives its number
-abbrev verdict : Bool → Bool → Bool → Bool → ℕ
-verdict a b c e = pick a (pick b (pick c (pick e 0 11) 10) 9) 8
-
-four : (a b c e : Bool) → first_bad 0 ((8, a) ∷ (9, b) ∷ (10, c) ∷ (11, e) ∷ []) ≡ verdict a b c e
-unfolding or_fault
-four false b c e = refl
-four true false c e = refl
-four true true false e = refl
-four true true true false = refl
-four true true true true = refl
 
 is_0 : (a b c e : Bool) → verdict a b c e ≡ 0 → (a ≡ true) × ((b ≡ true) × ((c ≡ true) × (e ≡ true)))
 is_0 false b c e h = absurd (omega arith)
@@ -135,7 +120,7 @@ module _ (s : Session) (x : Sample) where
   a = inside_of s
 
   abbrev b : Bool
-  b = codes_test x
+  b = codes_fit x
 
   abbrev c : Bool
   c = leb (x.pulses * s.card.settings.tick) 100000
@@ -143,16 +128,15 @@ module _ (s : Session) (x : Sample) where
   abbrev e : Bool
   e = mode_test s.desk.bts x.pulses s.desk.brake x.mode
 
-  by_tests : refused_by s x ≡ verdict a b c e
-  unfolding refused_by
-  by_tests = four a b c e
+  named : refused_by s x ≡ verdict a b c e
+  named = by_tests s x
 
   accepted : (refused_by s x ≡ 0) ↔ Accepted s x
   accepted = (only, when)
     where
       only : refused_by s x ≡ 0 → Accepted s x
       only h =
-          let t = is_0 a b c e (sym by_tests ∙ h) in
+          let t = is_0 a b c e (sym named ∙ h) in
           let codes = codes_only x t.1.0 in
           record {
             inside = inside_only s t.0;
@@ -163,33 +147,33 @@ module _ (s : Session) (x : Sample) where
 
       when : Accepted s x → refused_by s x ≡ 0
       when m =
-          by_tests
+          named
           ∙ rw (inside_when s m.inside, codes_when x m.codes, le-leb _ _ m.slow, mode_when s.desk.bts x.pulses s.desk.brake x.mode m.kept)
 
   refused_8 : (refused_by s x ≡ 8) ↔ (Inside s → ⊥)
-  refused_8 = (λ h. outside_only s (is_8 a b c e (sym by_tests ∙ h)), λ m. by_tests ∙ rw (outside_when s m))
+  refused_8 = (λ h. outside_only s (is_8 a b c e (sym named ∙ h)), λ m. named ∙ rw (outside_when s m))
 
   refused_9 : (refused_by s x ≡ 9) ↔ (Inside s × (CodesMet x → ⊥))
   refused_9 = (only, when)
     where
       only : refused_by s x ≡ 9 → Inside s × (CodesMet x → ⊥)
       only h =
-          let t = is_9 a b c e (sym by_tests ∙ h) in
+          let t = is_9 a b c e (sym named ∙ h) in
           (inside_only s t.0, λ m. apart b (codes_when x m) t.1)
 
       when : Inside s × (CodesMet x → ⊥) → refused_by s x ≡ 9
-      when m = by_tests ∙ rw (inside_when s m.0, not_so b (λ q. m.1 (codes_only x q)))
+      when m = named ∙ rw (inside_when s m.0, not_so b (λ q. m.1 (codes_only x q)))
 
   refused_10 : (refused_by s x ≡ 10) ↔ (Inside s × (CodesMet x × (100000 < x.pulses * s.card.settings.tick)))
   refused_10 = (only, when)
     where
       only : refused_by s x ≡ 10 → Inside s × (CodesMet x × (100000 < x.pulses * s.card.settings.tick))
       only h =
-          let t = is_10 a b c e (sym by_tests ∙ h) in
+          let t = is_10 a b c e (sym named ∙ h) in
           (inside_only s t.0, (codes_only x t.1.0, leb-false _ _ t.1.1))
 
       when : Inside s × (CodesMet x × (100000 < x.pulses * s.card.settings.tick)) → refused_by s x ≡ 10
-      when m = by_tests ∙ rw (inside_when s m.0, codes_when x m.1.0, lt-leb _ _ m.1.1)
+      when m = named ∙ rw (inside_when s m.0, codes_when x m.1.0, lt-leb _ _ m.1.1)
 
   refused_11 : (refused_by s x ≡ 11)
       ↔ (Inside s × (CodesMet x × ((x.pulses * s.card.settings.tick ≤ 100000) × (ModeMet s x → ⊥))))
@@ -198,14 +182,14 @@ module _ (s : Session) (x : Sample) where
       only : refused_by s x ≡ 11
           → Inside s × (CodesMet x × ((x.pulses * s.card.settings.tick ≤ 100000) × (ModeMet s x → ⊥)))
       only h =
-          let t = is_11 a b c e (sym by_tests ∙ h) in
+          let t = is_11 a b c e (sym named ∙ h) in
           (inside_only s t.0, (codes_only x t.1.0, (leb-true _ _ t.1.1.0, λ m. apart e (mode_when s.desk.bts x.pulses s.desk.brake x.mode m) t.1.1.1)))
 
       when : Inside s × (CodesMet x × ((x.pulses * s.card.settings.tick ≤ 100000) × (ModeMet s x → ⊥)))
           → refused_by s x ≡ 11
       when m =
           let codes = m.1.0 in
-          by_tests
+          named
           ∙ rw (
             inside_when s m.0,
             codes_when x codes,
@@ -218,7 +202,7 @@ module _ (s : Session) (x : Sample) where
   first_refused n h z = first_fault (sample_checks s x) n tt h z
 
   refused_as : (n : ℕ) → refused_by s x ≡ n → (n ≡ 0 → ⊥)
-      → sample_of s x ≡ record { session = s; outcome = Refused (Number n) }
+      → sample_of s x ≡ record { session = s; outcome = Err (numbered_refusal n) }
   unfolding sample_of
   refused_as n h z = rw (h, ne_eqb n 0 z)
 

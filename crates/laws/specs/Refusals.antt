@@ -1,13 +1,12 @@
 -- Document 01, "Refusal numbers": a sample is refused with 8, 9, 10 or 11 exactly when the plain facts say so, in that order, and in no
 -- other case.
-use Rattle.std.specs.Prelude.{ℕ, ◌*◌, ◌≤◌, ◌<◌, ◌≡◌, ◌⊎◌, ◌↔◌}
+use Rattle.std.specs.Prelude.{ℕ, ◌*◌, ◌≤◌, ◌<◌, ◌≡◌, ◌⊎◌, ◌↔◌, Err}
 use Rattle.leaf.specs.Choosing.{pick}
 use Rattle.leaf.specs.Numbers.{code_top, buttons_top}
 use Rattle.leaf.specs.Checks.{FirstFault}
-use Rattle.leaf.specs.declared.Refusal.TheVariants.{Number}
+use Rattle.leaf.specs.Answers.{numbered_refusal}
 use Rattle.session.specs.declared.Sample.{Sample}
 use Rattle.session.specs.declared.Session.{Session}
-use Rattle.session.specs.declared.Outcome.TheVariants.{Refused}
 use Rattle.session.specs.Session.{sample_checks, refused_by, ran_of, sample_of}
 use Rattle.step_laws.specs.Brake.{AtStandstill}
 use Rattle.laws.specs.Ranges.{Inside}
@@ -52,6 +51,6 @@ pub record RefusalLaws (s : Session) (x : Sample) : Type 0 where
   -- "sample 8, 9, 10, 11": a number that is given is that of a check of the list that fails, and every check before it holds
   pub first_refused : (n : ℕ) → refused_by s x ≡ n → (n ≡ 0 → ⊥) → FirstFault n (sample_checks s x)
   -- "A refusal returns its number .. and leaves .. the handed-in session unchanged."
-  pub refused_as : (n : ℕ) → refused_by s x ≡ n → (n ≡ 0 → ⊥) → sample_of s x ≡ record { session = s; outcome = Refused (Number n) }
+  pub refused_as : (n : ℕ) → refused_by s x ≡ n → (n ≡ 0 → ⊥) → sample_of s x ≡ record { session = s; outcome = Err (numbered_refusal n) }
   -- a sample that is accepted is run
   pub accepted_as : refused_by s x ≡ 0 → sample_of s x ≡ ran_of s x
