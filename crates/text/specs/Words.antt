@@ -1,12 +1,12 @@
 -- Words as text, in ASCII: a list of words, words with a number behind them, a refusal.
-use Rattle.std.specs.Prelude.{ℕ, zero, suc, ◌-◌, ◌≡◌, true, false, ◌&&◌, List, [], ◌∷◌, ◌++◌, eqb}
+use Rattle.std.specs.Prelude.{ℕ, zero, suc, ◌-◌, ◌≡◌, true, false, ◌&&◌, List, [], ◌∷◌, ◌++◌, Option, Some, None, eqb}
 use Rattle.std.proofs.Common.{arith}
 use Prim.Native.Char.{code}
 use Prim.Native.String.{String, [] as none, ◌∷◌ as ◌then◌}
 use Rattle.std.proofs.Math.Dec.{eqb-suc-zero}
 use Rattle.leaf.specs.Choosing.{pick}
-use Rattle.leaf.specs.declared.Refusal.{Refusal}
-use Rattle.leaf.specs.declared.Refusal.TheVariants.{Number, At}
+use Rattle.leaf.specs.Answers.{number_of, place_of}
+use Rattle.leaf.specs.declared.refusal.Refusal.{Refusal}
 use Rattle.text.specs.Decimal.{decimal}
 
 -- the bytes of quoted words: the codes of their characters
@@ -35,9 +35,12 @@ refused_by n = labelled (ascii "refused ") n
 abbrev pub refused_at_place : ℕ → ℕ → List ℕ
 refused_at_place n place = refused_by n ++ labelled (ascii " at ") place
 
+abbrev pub numbered_text : ℕ → Option ℕ → List ℕ
+numbered_text n None = refused_by n
+numbered_text n (Some place) = refused_at_place n place
+
 abbrev pub refusal_text : Refusal → List ℕ
-refusal_text (Number n) = refused_by n
-refusal_text (At n place) = refused_at_place n place
+refusal_text why = numbered_text (number_of why) (place_of why)
 
 -- ---- laws of a list of words, a byte at a time
 

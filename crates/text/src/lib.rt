@@ -164,12 +164,10 @@ pub fn put_hundredths(out: &mut [u8], at: usize, n: u32) -> usize
 pub fn put_refusal(out: &mut [u8], at: usize, why: Refusal) -> usize
     ensures { (out.new, result) ≡ typed (refusal_text why) (out.old, at) }
 {
-    match why {
-        Refusal::Number(n) => put_labelled(out, at, b"refused ", n as u32),
-        Refusal::At(n, place) => {
-            let at = put_labelled(out, at, b"refused ", n as u32);
-            put_labelled(out, at, b" at ", place as u32)
-        }
+    let at = put_labelled(out, at, b"refused ", u32::from(why.number()));
+    match why.place() {
+        None => at,
+        Some(place) => put_labelled(out, at, b" at ", u32::from(place)),
     }
 }
 
