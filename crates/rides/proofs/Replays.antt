@@ -5,22 +5,26 @@ use native.Mathlib.Numerals.{add-one}
 use native.Mathlib.Nat.{add-zero, add-suc}
 use mathlib.Core.Path.{◌≡◌, refl, sym, ap, ◌∙◌}
 use mathlib.Core.Bool.{Bool, true, false}
-use mathlib.Core.List.{List}
+use mathlib.Core.List.{List, [], ◌∷◌}
 use lib.Dec.{eqb, leb}
 use borrow.Author.Tests.{eqb-true, ne_eqb, leb-true, leb-false}
-use Rattle.leaf.specs.Checks.{none_bad}
+use Rattle.std.specs.Prelude.{None, Result, Ok, Err}
+use Rattle.leaf.specs.Choosing.{pick}
+use Rattle.leaf.specs.Checks.{first_bad, or_fault, none_bad}
+use Rattle.leaf.specs.Answers.{number_of, ensured, numbered_refusal}
+use Rattle.leaf.specs.declared.refusal.Refusal.{Refusal}
+use Rattle.leaf.specs.declared.refusal.Refusal.TheVariants.{SessionOutOfRange, BadRecording}
 use Rattle.session.specs.declared.Sample.{Sample}
 use Rattle.session.specs.declared.Session.{Session}
+use Rattle.session.specs.Session.{inside_of}
 use Rattle.session.specs.Runs.{accepted}
-use Rattle.rides.specs.Recording.{sample_at, samples_in, most_samples}
+use Rattle.rides.specs.Recording.{sample_at, samples_in, most_samples, good_recording}
 use Rattle.rides.specs.Ride.{fresh_ride, turn_of, turn_at, ride_from}
-use Rattle.rides.specs.Replay.{due_from, shown_next, step_of, steps_from, later_of, last_from, so_far, ran_from, replay_checks, unrun_by, replay_of}
+use Rattle.rides.specs.Replay.{Last, due_from, shown_next, step_of, steps_from, later_of, last_from, so_far, ran_from, unrun_of, replay_checks, unrun_by, judged_as, replay_of}
 use Rattle.rides.specs.declared.ride.Ride.{Ride}
 use Rattle.rides.specs.declared.ride.Shown.{Shown}
 use Rattle.rides.specs.declared.ride.Shown.TheVariants.{Answered, Refused, Nothing}
 use Rattle.rides.specs.declared.ride.Turned.{Turned}
-use Rattle.rides.specs.declared.replay.Last.{Last}
-use Rattle.rides.specs.declared.replay.Last.TheVariants.{None}
 use Rattle.rides.proofs.Recordings.{good_met}
 use Rattle.rides.proofs.Runs.{turned_accepted, turned_refused, from_suc, ended_shows, ended_stays}
 
@@ -156,3 +160,63 @@ runs_on recording place s quota n all e =
     let few = few_samples recording s e in
     let same : n ≡ samples_in recording = omega arith in
     rw (e, same) (from_place s recording place quota)
+
+-- ---- a recording or a session that is refused
+
+-- the number by the two tests
+abbrev verdict : Bool → Bool → ℕ
+verdict good inside = pick good (pick inside 0 8) 14
+
+by_tests : (recording : List ℕ) (s : Session) → unrun_by recording s ≡ verdict (good_recording recording) (inside_of s)
+unfolding unrun_by or_fault
+by_tests recording s = cases (good_recording recording) (inside_of s)
+  where
+    cases : (good inside : Bool) → first_bad 0 ((14, good) ∷ (8, inside) ∷ []) ≡ verdict good inside
+    cases true true = refl
+    cases true false = refl
+    cases false inside = refl
+
+-- that of its refusal
+own_number : (recording : List ℕ) (s : Session) → eqb (unrun_by recording s) 0 ≡ false → number_of (numbered_refusal (unrun_by recording s)) ≡ unrun_by recording s
+unfolding numbered_refusal
+own_number recording s h = rw (by_tests recording s) (cases (good_recording recording) (inside_of s) (rw (by_tests recording s) at h))
+  where
+    cases : (good inside : Bool) → eqb (verdict good inside) 0 ≡ false → number_of (numbered_refusal (verdict good inside)) ≡ verdict good inside
+    cases true true h = cc
+    cases true false h = refl
+    cases false inside h = refl
+
+-- a test and its refusal, one behind the other
+pub judged_chain : (recording : List ℕ) (s : Session)
+    → judged_as recording s ≡ pick (good_recording recording) (ensured (inside_of s) SessionOutOfRange) (Err BadRecording)
+unfolding judged_as numbered_refusal
+judged_chain recording s = rw (by_tests recording s) (cases (good_recording recording) (inside_of s))
+  where
+    cases : (good inside : Bool) → pick (eqb (verdict good inside) 0) (Ok tt) (Err (numbered_refusal (verdict good inside)))
+        ≡ pick good (ensured inside SessionOutOfRange) (Err BadRecording)
+    cases true true = refl
+    cases true false = refl
+    cases false inside = refl
+
+-- where it is refused no sample runs, else as many as are due
+pub not_run : (recording : List ℕ) (place : ℕ) (s : Session) (quota : ℕ) (why : Refusal) → judged_as recording s ≡ Err why
+    → unrun_of (number_of why) s ≡ replay_of recording place s quota
+unfolding judged_as replay_of
+not_run recording place s quota why h = cases (eqb (unrun_by recording s) 0) refl h
+  where
+    cases : (t : Bool) → eqb (unrun_by recording s) 0 ≡ t → ◌≡◌ {A = Result Unit Refusal} (pick t (Ok tt) (Err (numbered_refusal (unrun_by recording s)))) (Err why)
+        → unrun_of (number_of why) s ≡ pick t (ran_from s recording place (due_from recording place quota)) (unrun_of (unrun_by recording s) s)
+    cases true e h = let z : ◌≡◌ {A = ℕ} 0 1 = cc in absurd (omega arith)
+    cases false e h =
+        let same : numbered_refusal (unrun_by recording s) ≡ why = cc in
+        ap (λ (n : ℕ). unrun_of n s) (ap number_of (sym same) ∙ own_number recording s e)
+
+pub judged_run : (recording : List ℕ) (place : ℕ) (s : Session) (quota n : ℕ) → n ≡ min (samples_in recording) most_samples → judged_as recording s ≡ Ok tt
+    → ran_from s recording (min place n) (min quota (n - min place n)) ≡ replay_of recording place s quota
+unfolding judged_as
+judged_run recording place s quota n all h = cases (eqb (unrun_by recording s) 0) refl h
+  where
+    cases : (t : Bool) → eqb (unrun_by recording s) 0 ≡ t → ◌≡◌ {A = Result Unit Refusal} (pick t (Ok tt) (Err (numbered_refusal (unrun_by recording s)))) (Ok tt)
+        → ran_from s recording (min place n) (min quota (n - min place n)) ≡ replay_of recording place s quota
+    cases true e h = runs_on recording place s quota n all (eqb-true _ _ e)
+    cases false e h = let z : ◌≡◌ {A = ℕ} 0 1 = cc in absurd (omega arith)

@@ -9,15 +9,16 @@ use lib.Dec.{eqb}
 use lib.ListN.{take}
 use Rattle.leaf.specs.Choosing.{pick, and_split}
 use Rattle.leaf.specs.Answers.{Answer, given, refused, refused_at}
-use Rattle.leaf.specs.declared.Refusal.TheVariants.{Number}
+use Rattle.leaf.specs.Answers as answers
 use Rattle.step.specs.declared.Answer.{Answer as Told}
 use Rattle.session.specs.declared.Sample.{Sample}
 use Rattle.session.specs.declared.Session.{Session}
 use Rattle.session.specs.declared.Sampled.{Sampled}
-use Rattle.session.specs.declared.Outcome.TheVariants.{Refused}
+use Rattle.std.specs.Prelude.{Err}
 use Rattle.session.specs.Session.{refused_by, carried, stepped, ran_of, sample_of, outcome_of, answer_to}
 use Rattle.session.specs.Runs.{accepted, after, outcomes, all_accepted}
 use Rattle.session.proofs.Paper.{sample_paper}
+use Rattle.session.proofs.Numbers.{refused_number}
 use Rattle.rides.specs.Recording.{sample_at, samples_from, first_samples}
 use Rattle.rides.specs.Ride.{fresh_ride, told_of, turn_of, shown_of, turn_shows, turn_at, ride_from, ride_after, run_of, shown_by, until_refused}
 use Rattle.rides.specs.declared.ride.Ride.{Ride}
@@ -30,18 +31,18 @@ use Rattle.rides.specs.declared.ride.Turned.{Turned}
 -- what a turn shows is on paper what the sample is answered with
 pub turn_paper : (r : Ride) (x : Sample) → shown_of (turn_of r x).shown ≡ turn_shows r x
 unfolding turn_of told_of turn_shows sample_of ran_of answer_to
-turn_paper r x = cases (eqb r.ended 0) (eqb (refused_by r.session x) 0)
+turn_paper r x = cases (eqb r.ended 0) (eqb (refused_by r.session x) 0) refl
   where
     told : Bool → Sampled
     told t =
-        pick t (ran_of r.session x) (record { session = r.session; outcome = Refused (Number (refused_by r.session x)) })
+        pick t (ran_of r.session x) (record { session = r.session; outcome = Err (answers.numbered_refusal (refused_by r.session x)) })
 
-    cases : (going t : Bool) → shown_of (pick going (told_of (told t).session (told t).outcome) (record { ride = r; shown = Nothing })).shown
+    cases : (going t : Bool) → accepted r.session x ≡ t → shown_of (pick going (told_of (told t).session (told t).outcome) (record { ride = r; shown = Nothing })).shown
         ≡ pick going (pick t (given (stepped r.session (carried r.session x)).answer) (refused (refused_by r.session x)) ∷ []) []
-    cases true true = refl
-    cases true false = refl
-    cases false true = refl
-    cases false false = refl
+    cases true true e = refl
+    cases true false e = rw (refused_number r.session x e)
+    cases false true e = refl
+    cases false false e = refl
 
 -- so a result that is the definition's shows what the definition shows
 pub on_paper : (r : Ride) (x : Sample) (t : Turned) → t ≡ turn_of r x → (t ≡ turn_of r x) × (shown_of t.shown ≡ turn_shows r x)
@@ -56,7 +57,7 @@ turned_accepted s x e = rw e
 pub turned_refused : (s : Session) (x : Sample) → accepted s x ≡ false
     → turn_of (fresh_ride s) x ≡ record { ride = record { session = s; ended = refused_by s x }; shown = shown.Refused (refused_by s x) }
 unfolding turn_of told_of sample_of ran_of
-turned_refused s x e = rw e
+turned_refused s x e = rw (e, refused_number s x e)
 
 answer-accepted : (s : Session) (x : Sample) → accepted s x ≡ true → answer_to s x ≡ given (stepped s (carried s x)).answer
 unfolding answer_to

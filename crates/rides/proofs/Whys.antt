@@ -2,11 +2,10 @@
 use mathlib.Core.Path.{◌≡◌, refl}
 use mathlib.Core.Bool.{true, false}
 use lib.Dec.{eqb}
+use Rattle.std.specs.Prelude.{Ok, Err}
 use Rattle.session.specs.declared.Sample.{Sample}
 use Rattle.session.specs.declared.Session.{Session}
-use Rattle.session.specs.declared.Outcome.{Outcome}
-use Rattle.session.specs.declared.Outcome.TheVariants as outcome
-use Rattle.session.specs.Session.{sample_of}
+use Rattle.session.specs.Session.{Outcome, sample_of}
 use Rattle.session.specs.Why as session
 use Rattle.rides.specs.Ride.{told_of, turn_of}
 use Rattle.rides.specs.Why.{no_why, why_shown, explained_of, explained_by}
@@ -21,8 +20,8 @@ module _ (r : Ride) (x : Sample) where
       cases : (s : Session) (o : Outcome)
           → explained_by (session.explained_of s o).session (session.explained_of s o).told
           ≡ record { turned = told_of s o; why = why_shown (told_of s o).ride.session (told_of s o).shown }
-      cases s (outcome.Answered a) = refl
-      cases s (outcome.Refused why) = refl
+      cases s (Ok a) = refl
+      cases s (Err why) = refl
 
   pub asked_ended : eqb r.ended 0 ≡ false → record { turned = record { ride = r; shown = shown.Nothing }; why = no_why } ≡ explained_of r x
   unfolding turn_of

@@ -1,8 +1,11 @@
 -- Document 02 d), "Yesterday's lesson, an hour at a time": "Teachers want long rides replayed with a stop anywhere." A part of a ride: so many
 -- samples from a place on, run from a session that is handed in. Defined by the number of samples run, forward; a whole ride is the case of place 0.
-use Rattle.std.specs.Prelude.{ℕ, zero, suc, ◌+◌, ◌-◌, min, List, [], ◌∷◌, eqb}
+use Rattle.std.specs.Prelude.{ℕ, zero, suc, ◌+◌, ◌-◌, min, List, [], ◌∷◌, Option, Some, None, Result, Ok, Err, eqb}
 use Rattle.leaf.specs.Choosing.{pick}
 use Rattle.leaf.specs.Checks.{Check, first_bad}
+use Rattle.leaf.specs.Answers.{numbered_refusal}
+use Rattle.leaf.specs.declared.refusal.Refusal.{Refusal}
+use Rattle.step.specs.declared.Answer.{Answer}
 use Rattle.session.specs.declared.Session.{Session}
 use Rattle.session.specs.Session.{inside_of}
 use Rattle.rides.specs.Recording.{good_recording, samples_in}
@@ -10,11 +13,13 @@ use Rattle.rides.specs.Ride.{fresh_ride, turn_at, ride_from}
 use Rattle.rides.specs.declared.ride.Ride.{Ride}
 use Rattle.rides.specs.declared.ride.Shown.{Shown}
 use Rattle.rides.specs.declared.ride.Shown.TheVariants as shown
-use Rattle.rides.specs.declared.replay.Last.{Last}
-use Rattle.rides.specs.declared.replay.Last.TheVariants as last
 use Rattle.rides.specs.declared.replay.End.{End}
 use Rattle.rides.specs.declared.replay.End.TheVariants as end
 use Rattle.rides.specs.declared.replay.Replayed.{Replayed}
+
+-- the answer that was last, where a sample ran
+abbrev pub Last : Type 0
+Last = Option Answer
 
 -- ---- how far it goes
 
@@ -45,13 +50,13 @@ steps_from r recording place (suc k) = steps_from r recording place k + step_of 
 
 -- the answer that was last, and this one behind it
 abbrev pub later_of : Last → Shown → Last
-later_of before (shown.Answered a) = last.Answered a
+later_of before (shown.Answered a) = Some a
 later_of before (shown.Refused n) = before
 later_of before shown.Nothing = before
 
 -- the last answer of the first k from the place on
 unfoldable pub last_from : Ride → List ℕ → ℕ → ℕ → Last
-last_from r recording place zero = last.None
+last_from r recording place zero = None
 last_from r recording place (suc k) = later_of (last_from r recording place k) (shown_next r recording place k)
 
 -- "A refused sample gives its number, its position as a place (place + run), last answer or none, session before it, number run." (d4)
@@ -71,7 +76,7 @@ ran_from s recording place k =
 
 -- the recording or the session is refused: no sample runs
 abbrev pub unrun_of : ℕ → Session → Replayed
-unrun_of n s = record { session = s; last = last.None; ran = 0; end = end.Refused n }
+unrun_of n s = record { session = s; last = None; ran = 0; end = end.Refused n }
 
 -- 14 "recording not exactly as long as stated, ..", 8 "session out of its ranges", "also at quota 0 or past the end" (d3)
 abbrev pub replay_checks : List ℕ → Session → List Check
@@ -80,6 +85,10 @@ replay_checks recording s = (14, good_recording recording) ∷ (8, inside_of s) 
 -- the number of that refusal, 0 where there is none
 unfoldable pub unrun_by : List ℕ → Session → ℕ
 unrun_by recording s = first_bad 0 (replay_checks recording s)
+
+-- nothing where the samples run, or that refusal
+unfoldable pub judged_as : List ℕ → Session → Result Unit Refusal
+judged_as recording s = pick (eqb (unrun_by recording s) 0) (Ok tt) (Err (numbered_refusal (unrun_by recording s)))
 
 -- "Replay takes a ride, a place in it, a starting session and a quota of samples". "The session's train type rules": that of the recording is not
 -- looked at (d2).

@@ -1,16 +1,14 @@
 -- A ride: a session and its samples one after the other, until one is refused. Defined by the number of samples run, forward.
-use Rattle.std.specs.Prelude.{ℕ, zero, suc, ◌+◌, List, [], ◌∷◌, ◌++◌, eqb}
+use Rattle.std.specs.Prelude.{ℕ, zero, suc, ◌+◌, List, [], ◌∷◌, ◌++◌, Ok, Err, eqb}
 use Rattle.leaf.specs.Choosing.{pick}
 use Rattle.leaf.specs.Answers.{Answer, given, refused, refused_at}
-use Rattle.leaf.specs.declared.Refusal.{Refusal}
-use Rattle.leaf.specs.declared.Refusal.TheVariants.{Number, At}
+use Rattle.leaf.specs.Answers as answers
+use Rattle.leaf.specs.declared.refusal.Refusal.{Refusal}
 use Rattle.card.specs.declared.Card.{Card}
 use Rattle.step.specs.declared.Answer.{Answer as Told}
 use Rattle.session.specs.declared.Sample.{Sample}
 use Rattle.session.specs.declared.Session.{Session}
-use Rattle.session.specs.declared.Outcome.{Outcome}
-use Rattle.session.specs.declared.Outcome.TheVariants as outcome
-use Rattle.session.specs.Session.{open_session, sample_of, answer_to}
+use Rattle.session.specs.Session.{Outcome, open_session, sample_of, answer_to}
 use Rattle.rides.specs.Recording.{good_recording, train_of, sample_at, samples_of}
 use Rattle.rides.specs.declared.ride.Ride.{Ride}
 use Rattle.rides.specs.declared.ride.Shown.{Shown}
@@ -27,15 +25,14 @@ fresh_ride s = record { session = s; ended = 0 }
 
 -- a refusal's number, without its place
 abbrev pub number_of : Refusal → ℕ
-number_of (Number n) = n
-number_of (At n place) = n
+number_of why = answers.number_of why
 
 -- ---- a turn: one more sample
 
 -- "A refusal .. ends it."
 unfoldable pub told_of : Session → Outcome → Turned
-told_of s (outcome.Answered a) = record { ride = record { session = s; ended = 0 }; shown = shown.Answered a }
-told_of s (outcome.Refused why) = record { ride = record { session = s; ended = number_of why }; shown = shown.Refused (number_of why) }
+told_of s (Ok a) = record { ride = record { session = s; ended = 0 }; shown = shown.Answered a }
+told_of s (Err why) = record { ride = record { session = s; ended = number_of why }; shown = shown.Refused (number_of why) }
 
 -- what has ended stays as it is, and shows nothing more
 unfoldable pub turn_of : Ride → Sample → Turned

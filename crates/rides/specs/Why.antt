@@ -1,12 +1,10 @@
 -- Document 02 f), "Why is it forty?", of a ride: a turn, and why the S that it shows is what it is.
-use Rattle.std.specs.Prelude.{ℕ, List}
+use Rattle.std.specs.Prelude.{ℕ, List, Ok, Err}
 use Rattle.step.specs.declared.speed.Reason.TheVariants as reason
 use Rattle.session.specs.declared.Sample.{Sample}
 use Rattle.session.specs.declared.Session.{Session}
 use Rattle.session.specs.declared.Why.{Why}
-use Rattle.session.specs.declared.Told.{Told}
-use Rattle.session.specs.declared.Told.TheVariants as told
-use Rattle.session.specs.Why.{why_now}
+use Rattle.session.specs.Why.{Told, why_now}
 use Rattle.rides.specs.Recording.{sample_at}
 use Rattle.rides.specs.Ride.{number_of, turn_of}
 use Rattle.rides.specs.declared.ride.Ride.{Ride}
@@ -34,7 +32,7 @@ explained_at r recording k = explained_of r (sample_at recording k)
 
 -- by what is told of the sample, in the session after it: "A refusal .. ends it."
 abbrev pub explained_by : Session → Told → Explained
-explained_by s (told.Reasoned r) =
+explained_by s (Ok r) =
     record { turned = record { ride = record { session = s; ended = 0 }; shown = shown.Answered r.answer }; why = r.why }
-explained_by s (told.Refused why) =
+explained_by s (Err why) =
     record { turned = record { ride = record { session = s; ended = number_of why }; shown = shown.Refused (number_of why) }; why = no_why }

@@ -1,22 +1,16 @@
 // Replaying a part of a ride: a quota of a recording's samples from a place on, run from a session that is handed in.
-ghost use Rattle.std.specs.Prelude.{◌≡◌, ◌+◌, ◌≤◌, min};
-ghost use Rattle.rides.specs.Replay.{step_of, later_of, end_at, so_far, ran_from, unrun_of, unrun_by, replay_of};
+ghost use Rattle.std.specs.Prelude.{◌≡◌, ◌+◌, ◌≤◌};
+ghost use Rattle.leaf.specs.Answers.{number_of};
+ghost use Rattle.rides.specs.Replay.{step_of, later_of, end_at, so_far, ran_from, unrun_of, judged_as, replay_of};
 
 use crate::recording::{is_good, samples};
-use crate::ride::{Ride, Shown};
-use leaf::or_fault;
+use crate::ride::{Ride, Shown, Turned};
+use leaf::{Refusal, ensure};
 use session::Session;
 use step::Answer;
 
-// The last answer, where a sample ran.
-#[derive(Clone, Copy)]
-pub enum Last {
-    None,
-    Answered(Answer),
-}
-
 // How a replay ended: unrefused, its quota or the recording used up; by the number that refuses recording or session; or by
-// the number that refuses a sample, and how many samples of the recording stand before that one.
+// the number that refuses a sample, and how many samples of the recording stand before that one. Numbers, since a ride's end is one.
 #[derive(Clone, Copy)]
 pub enum End {
     Unrefused,
@@ -28,55 +22,45 @@ pub enum End {
 #[derive(Clone, Copy)]
 pub struct Replayed {
     pub session: Session,
-    pub last: Last,
+    pub last: Option<Answer>,
     pub ran: u16,
     pub end: End,
-}
-
-fn at_most(x: u64, top: u16) -> u16
-    ensures { result ≡ min x top }
-{
-    if x < top as u64 { x as u16 } else { top }
 }
 
 // A sample that is answered is one step.
 fn step_of(shown: Shown) -> u16
     ensures { result ≡ step_of shown }
 {
-    match shown {
-        Shown::Answered(_) => 1,
-        Shown::Refused(_) => 0,
-        Shown::Nothing => 0,
-    }
+    u16::from(matches!(shown, Shown::Answered(_)))
 }
 
 // The answer that was last, and what is shown behind it.
-fn later(before: Last, shown: Shown) -> Last
+fn later(before: Option<Answer>, shown: Shown) -> Option<Answer>
     ensures { result ≡ later_of before shown }
 {
     match shown {
-        Shown::Answered(a) => Last::Answered(a),
-        Shown::Refused(_) => before,
-        Shown::Nothing => before,
+        Shown::Answered(answer) => Some(answer),
+        Shown::Refused(_) | Shown::Nothing => before,
     }
 }
 
-// The number that refuses the recording or the session, 0 where there is none.
-fn refusal(recording: &[u8], session: Session) -> u8
-    ensures { result ≡ unrun_by recording.now session }
+// Do the samples run; else the refusal of the recording, then that of the session.
+#[tactic(auto, using(crate::proofs::Replays::judged_chain))]
+fn judge(recording: &[u8], session: Session) -> Result<(), Refusal>
+    ensures { result ≡ judged_as recording.now session }
 {
-    let n = or_fault(0, 14, is_good(recording));
-    or_fault(n, 8, session.is_inside())
+    ensure(is_good(recording), Refusal::BadRecording)?;
+    ensure(session.is_inside(), Refusal::SessionOutOfRange)
 }
 
-fn unrun(number: u8, session: Session) -> Replayed
-    ensures { result ≡ unrun_of number session }
+fn unrun(why: Refusal, session: Session) -> Replayed
+    ensures { result ≡ unrun_of (number_of why) session }
 {
     Replayed {
-        session: session,
-        last: Last::None,
+        session,
+        last: None,
         ran: 0,
-        end: End::Refused(number),
+        end: End::Refused(why.number()),
     }
 }
 
@@ -84,23 +68,22 @@ fn unrun(number: u8, session: Session) -> Replayed
 fn end_at(ended: u8, position: u16) -> End
     ensures { result ≡ end_at ended position }
 {
-    let unrefused = ended == 0;
-    if unrefused {
-        return End::Unrefused;
+    if ended == 0 {
+        End::Unrefused
+    } else {
+        End::RefusedAt(ended, position)
     }
-    End::RefusedAt(ended, position)
 }
 
 // What a ride has come to, of which so many samples ran from a place on.
-fn so_far(ride: Ride, last: Last, place: u16, ran: u16) -> Replayed
+fn so_far(ride: Ride, last: Option<Answer>, place: u16, ran: u16) -> Replayed
     requires { place + ran ≤ 65535 }
     ensures { result ≡ so_far ride last place ran }
 {
-    let session = ride.session;
     Replayed {
-        session: session,
-        last: last,
-        ran: ran,
+        session: ride.session,
+        last,
+        ran,
         end: end_at(ride.ended, place + ran),
     }
 }
@@ -111,19 +94,16 @@ fn run(recording: &[u8], place: u16, session: Session, n: u16) -> Replayed
     ensures { result ≡ ran_from session recording.now place n }
 {
     let mut going = Ride::fresh(session);
-    let mut last = Last::None;
+    let mut last = None;
     let mut ran: u16 = 0;
-    let mut k: u16 = 0;
-    while k < n {
+    for k in 0..n {
         if going.ended != 0 {
             return so_far(going, last, place, ran);
         }
-        let turned = going.turn_at(recording, place + k);
-        let shown = turned.shown;
+        let Turned { ride, shown } = going.turn_at(recording, place + k);
         last = later(last, shown);
         ran += step_of(shown);
-        going = turned.ride;
-        k += 1;
+        going = ride;
     }
     so_far(going, last, place, ran)
 }
@@ -133,16 +113,17 @@ fn run(recording: &[u8], place: u16, session: Session, n: u16) -> Replayed
 // may be any numbers. Refused are a bad recording, 14, and a session out of its ranges, 8, even where no sample would run;
 // then a sample, with its number and position. The train type is the session's; the recording's is not looked at. Nothing before
 // the place is read but the recording's head.
+#[tactic(auto, using(crate::proofs::Replays::not_run, crate::proofs::Replays::judged_run))]
 pub fn replay(recording: &[u8], place: u64, session: Session, quota: u64) -> Replayed
     ensures { result ≡ replay_of recording.now place session quota }
 {
-    let number = refusal(recording, session);
-    let runs = number == 0;
-    if runs {
-        let n = samples(recording);
-        let from = at_most(place, n);
-        let due = at_most(quota, n - from);
-        return run(recording, from, session, due);
+    match judge(recording, session) {
+        Err(why) => unrun(why, session),
+        Ok(()) => {
+            let n = samples(recording);
+            let from = place.min(u64::from(n)) as u16;
+            let due = quota.min(u64::from(n - from)) as u16;
+            run(recording, from, session, due)
+        }
     }
-    unrun(number, session)
 }

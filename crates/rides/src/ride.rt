@@ -2,24 +2,26 @@
 ghost use Rattle.std.specs.Prelude.{◌≡◌};
 ghost use Rattle.session.specs.Session.{opened_of};
 ghost use Rattle.rides.specs.Recording.{sample_at};
-ghost use Rattle.rides.specs.Ride.{start_ride, fresh_ride, number_of, turn_of, turn_at, shown_of, turn_shows};
+ghost use Rattle.rides.specs.Ride.{start_ride, fresh_ride, turn_of, turn_at, shown_of, turn_shows};
 ghost use Rattle.rides.specs.Why.{no_why, explained_by, explained_of, explained_at};
 
 use crate::recording::{is_good, sample_at};
 use card::Card;
-use leaf::{Refusal, byte_at};
-use session::{Opened, Sample, Session, Told, Why};
+use leaf::{Refusal, byte_at, ensure};
+use session::{Asked, Reasoned, Sample, Session, Why};
 use step::Answer;
 use step::speed::Reason;
 
-// The session after the samples run, and the number of the refusal that ended the ride, 0 while none has.
+// The session after the samples run, and the number of the refusal that ended the ride, 0 while none has. The number stays one: `turn` is
+// promised of every ride handed in, whatever number it ended with.
 #[derive(Clone, Copy)]
 pub struct Ride {
     pub session: Session,
     pub ended: u8,
 }
 
-// What a turn shows: the sample's answer, or the number that refused it; nothing once the ride has ended.
+// What a turn shows: the sample's answer, or the number that refused it; nothing once the ride has ended. Not an Option of a Result: what
+// is printed of it is promised of every number, also of one that no refusal has.
 #[derive(Clone, Copy)]
 pub enum Shown {
     Answered(Answer),
@@ -40,26 +42,13 @@ pub struct Explained {
     pub why: Why,
 }
 
-// A refusal's number, without its place.
-pub fn number_of(why: Refusal) -> u8
-    ensures { result ≡ number_of why }
-{
-    match why {
-        Refusal::Number(n) => n,
-        Refusal::At(n, _) => n,
-    }
-}
-
 // The session that a recording starts on this card: 14, then what the opening refuses.
-pub fn start(card: Card, recording: &[u8]) -> Opened
+#[tactic(auto, unfolding(crate::specs::Ride::start_ride))]
+pub fn start(card: Card, recording: &[u8]) -> Result<Session, Refusal>
     ensures { opened_of result ≡ start_ride card recording.now }
 {
-    let good = is_good(recording);
-    let train = byte_at(recording, 5);
-    if good {
-        return Session::open(card, train);
-    }
-    Opened::Refused(Refusal::Number(14))
+    ensure(is_good(recording), Refusal::BadRecording)?;
+    Session::open(card, byte_at(recording, 5))
 }
 
 fn no_why() -> Why
@@ -74,32 +63,22 @@ fn no_why() -> Why
     }
 }
 
-fn explain(session: Session, told: Told) -> Explained
+fn explain(session: Session, told: Result<Reasoned, Refusal>) -> Explained
     ensures { result ≡ explained_by session told }
 {
     match told {
-        Told::Reasoned(reasoned) => {
-            let answer = reasoned.answer;
-            let why = reasoned.why;
+        Ok(Reasoned { answer, why }) => Explained {
+            turned: Turned {
+                ride: Ride::fresh(session),
+                shown: Shown::Answered(answer),
+            },
+            why,
+        },
+        Err(why) => {
+            let n = why.number();
             Explained {
                 turned: Turned {
-                    ride: Ride {
-                        session: session,
-                        ended: 0,
-                    },
-                    shown: Shown::Answered(answer),
-                },
-                why: why,
-            }
-        }
-        Told::Refused(why) => {
-            let n = number_of(why);
-            Explained {
-                turned: Turned {
-                    ride: Ride {
-                        session: session,
-                        ended: n,
-                    },
+                    ride: Ride { session, ended: n },
                     shown: Shown::Refused(n),
                 },
                 why: no_why(),
@@ -113,23 +92,17 @@ impl Ride {
     pub fn fresh(session: Session) -> Ride
         ensures { result ≡ fresh_ride session }
     {
-        Ride {
-            session: session,
-            ended: 0,
-        }
+        Ride { session, ended: 0 }
     }
 
     // One more sample, and why. A ride that has ended stays as it is.
+    #[tactic(auto, using(crate::proofs::Whys::asked_going))]
     pub fn turn_asking(self, x: Sample) -> Explained
         ensures { result ≡ explained_of self x }
     {
-        let going = self.ended == 0;
-        if going {
-            let session = self.session;
-            let asked = session.ask(x);
-            let next = asked.session;
-            let told = asked.told;
-            return explain(next, told);
+        if self.ended == 0 {
+            let Asked { session, told } = self.session.ask(x);
+            return explain(session, told);
         }
         Explained {
             turned: Turned {
@@ -148,16 +121,16 @@ impl Ride {
     }
 
     // One more sample.
-    #[tactic(auto, unfolding(crate::specs::Ride::turn_of, crate::specs::Ride::turn_shows, session::specs::Session::sample_of, crate::specs::Ride::told_of, session::specs::Session::answer_to, session::specs::Session::ran_of, session::specs::Session::refused_by, step::specs::Step::step_of, session::specs::Types::type_speed))]
+    #[tactic(auto, using(crate::proofs::Runs::on_paper))]
     pub fn turn(self, x: Sample) -> Turned
         ensures value { result ≡ turn_of self x }
         ensures shown_value { shown_of result.shown ≡ turn_shows self x }
     {
-        let explained = self.turn_asking(x);
-        explained.turned
+        self.turn_asking(x).turned
     }
 
     // The turn of the recording's sample that k samples stand before. Past its end a byte reads as 0.
+    #[tactic(auto, unfolding(crate::specs::Ride::turn_at))]
     pub fn turn_at(self, recording: &[u8], k: u16) -> Turned
         ensures value { result ≡ turn_at self recording.now k }
         ensures shown_value { shown_of result.shown ≡ turn_shows self (sample_at recording.now k) }

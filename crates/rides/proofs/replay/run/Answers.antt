@@ -20,6 +20,6 @@ returns c = let l = c.loop-k in
 
 pub loop-k-preserved : goal.loop-k-preserved
 loop-k-preserved c = let l = c.loop-k in
-    let low = step_low c.turn_at-turned.result.shown in
+    let low = step_low c.turn_at-shown.result.shown in
     let step = c.step_of-ran.ensures in
-    (omega arith, omega arith, rw (c.later-last.ensures, step) (next_at _ _ _ _ _ _ _ l.invariant.2 _ c.turn_at-turned.ensures.value))
+    (omega arith, omega arith, rw (c.later-last.ensures, step) (next_at _ _ _ _ _ _ _ l.invariant.2 _ c.turn_at-shown.ensures.value))
