@@ -11,7 +11,7 @@ ghost use Rattle.leaf.specs.Choosing.{pick};
 ghost use Rattle.text.specs.Decimal.{digit_of, unit_of, upper_of, lower_of, decimal, ended, tenths, hundredths, counted as Decimal·counted};
 ghost use Rattle.text.specs.Hex.{glyph as Hex·glyph, hex_of, pattern_of, hex_value};
 ghost use Rattle.text.specs.Typing.{typed};
-ghost use Rattle.text.specs.Words.{word_of, labelled, refusal_text};
+ghost use Rattle.text.specs.Words.{word_of, labelled, refusal_text, numbered_text};
 
 use leaf::Refusal;
 
@@ -159,16 +159,23 @@ pub fn put_hundredths(out: &mut [u8], at: usize, n: u32) -> usize
     put_number(out, at, n % 10)
 }
 
-// A refusal's number, and its place where it has one.
+// A refusal by its number, whatever that is, and by a place where one stands beside it.
 #[tactic(auto, using(crate::specs::Typing::then_typed), unfolding(crate::specs::Typing::typed))]
+pub fn put_numbered(out: &mut [u8], at: usize, number: u8, place: Option<u8>) -> usize
+    ensures { (out.new, result) ≡ typed (numbered_text number place) (out.old, at) }
+{
+    let at = put_labelled(out, at, b"refused ", number.into());
+    match place {
+        None => at,
+        Some(place) => put_labelled(out, at, b" at ", place.into()),
+    }
+}
+
+// A refusal's number, and its place where it has one.
 pub fn put_refusal(out: &mut [u8], at: usize, why: Refusal) -> usize
     ensures { (out.new, result) ≡ typed (refusal_text why) (out.old, at) }
 {
-    let at = put_labelled(out, at, b"refused ", u32::from(why.number()));
-    match why.place() {
-        None => at,
-        Some(place) => put_labelled(out, at, b" at ", u32::from(place)),
-    }
+    put_numbered(out, at, why.number(), why.place())
 }
 
 // ---- hexadecimal digits
