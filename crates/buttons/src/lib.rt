@@ -4,7 +4,7 @@
 ghost use Rattle.std.specs.Prelude.{◌≡◌, true};
 ghost use Rattle.leaf.specs.Numbers.{bit_of};
 ghost use Rattle.leaf.specs.Buttons.{crossing_button, limit_button, override_button, increase_button, hide_button};
-ghost use Rattle.buttons.specs.Buttons.{chosen, answered_by, main_answered, side_answered, pressed, free_for, option_used, limit_removed, paired_removed, single_first, lowest_removed, reminder_answered, override_armed, stop_increased, limit_stepped, crossing_pressed, limit_pressed, override_pressed, increase_pressed, hide_pressed, pressed_among, window_presses, all_presses, presses_of};
+ghost use Rattle.buttons.specs.Buttons.{chosen, answered_by, pressed, free_for, paired_removed, single_first, lowest_removed, crossing_pressed, limit_pressed, override_pressed, increase_pressed, hide_pressed, pressed_among, window_presses, all_presses, presses_of};
 
 use card::Row;
 use curve::row_speed;
