@@ -44,6 +44,7 @@ fn next_size(n: u16, b: u8) -> Option<u16>
 }
 
 // The size that the word says, where it says one.
+#[tactic(auto, using(crate::proofs::Sizes::goes_on, crate::proofs::Sizes::none_said, crate::proofs::Sizes::said))]
 fn size_in(word: &[u8]) -> Option<u16>
     ensures some { IfSome result (λ size. (size ≡ size_in word.now) × (0 < size)) }
     ensures none { IfNone result (size_in word.now ≡ 0) }
