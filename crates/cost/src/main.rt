@@ -17,47 +17,37 @@ struct Sums {
     rest: u32,
 }
 
-fn word(high: u8, low: u8) -> u16 {
-    (high as u16) * 256 + (low as u16)
-}
+const NO_SAMPLE: Sample = Sample {
+    pulses: 0,
+    beacon: 0,
+    buttons: 0,
+    mode: 0,
+};
 
 // The sample of this place; one that is refused where there is none.
 fn sample_at(s: &[u8], place: u16) -> Sample {
-    let at = 57 + 6 * (place as usize);
-    if s.len() < 6 {
-        return Sample {
-            pulses: 0,
-            beacon: 0,
-            buttons: 0,
-            mode: 0,
-        };
-    }
-    if s.len() - 6 < at {
-        return Sample {
-            pulses: 0,
-            beacon: 0,
-            buttons: 0,
-            mode: 0,
-        };
-    }
+    let at = 57 + 6 * usize::from(place);
+    let Some(six) = s.get(at..at + 6) else {
+        return NO_SAMPLE;
+    };
     Sample {
-        pulses: word(s[at], s[at + 1]),
-        beacon: s[at + 2],
-        buttons: word(s[at + 3], s[at + 4]),
-        mode: s[at + 5],
+        pulses: u16::from_be_bytes([six[0], six[1]]),
+        beacon: six[2],
+        buttons: u16::from_be_bytes([six[3], six[4]]),
+        mode: six[5],
     }
 }
 
 fn fold(sum: u32, x: u32) -> u32 {
-    (((sum as u64) * 31 + (x as u64)) % 4294967296) as u32
+    sum.wrapping_mul(31).wrapping_add(x)
 }
 
 // All of an answer but the speed.
 fn rest_of(answer: Answer) -> u32 {
-    (answer.lamps as u32)
-        + (answer.cause as u32) * 65536
-        + ((answer.icon % 4) as u32) * 16777216
-        + ((leaf::choose8(answer.limit, 1, 0) % 2) as u32) * 67108864
+    u32::from(answer.lamps)
+        + u32::from(answer.cause) * 65536
+        + u32::from(answer.icon % 4) * 16777216
+        + u32::from(answer.limit) * 67108864
 }
 
 fn number_of(refusal: Refusal) -> u8 {
@@ -75,7 +65,7 @@ impl Sums {
                 rest: fold(self.rest, rest_of(answer)),
             },
             Outcome::Refused(refusal) => Sums {
-                speeds: fold(self.speeds, number_of(refusal) as u32),
+                speeds: fold(self.speeds, u32::from(number_of(refusal))),
                 rest: fold(self.rest, 134217728),
             },
         }
@@ -85,11 +75,10 @@ impl Sums {
 // The samples of the recording in s, so many in all, from its first again at each round, each round from the session
 // as it opened. The only call of the session's sample.
 fn run(s: &[u8], opened: Session, samples: u16, rounds: u16) -> Sums {
-    let mut left = leaf::travel(samples, rounds);
     let mut place: u16 = 0;
     let mut session = opened;
     let mut sums = Sums { speeds: 0, rest: 0 };
-    while 0 < left {
+    for _ in 0..u32::from(samples) * u32::from(rounds) {
         let x = sample_at(s, place);
         let sampled = session.sample(x);
         let outcome = sampled.outcome;
@@ -99,16 +88,14 @@ fn run(s: &[u8], opened: Session, samples: u16, rounds: u16) -> Sums {
         if place == 0 {
             session = opened;
         }
-        left -= 1;
     }
     sums
 }
 
 // The place after this one; the first after the last.
 fn next_place(place: u16, samples: u16) -> u16 {
-    if place < 10000 {
-        let next = place + 1;
-        if next < samples { next } else { 0 }
+    if place < 10000 && place + 1 < samples {
+        place + 1
     } else {
         0
     }
@@ -116,7 +103,7 @@ fn next_place(place: u16, samples: u16) -> u16 {
 
 // How many samples a recording of this length has.
 fn samples_of(length: u32) -> u16 {
-    ((leaf::less(length, 6) / 6) % 65536) as u16
+    (length.saturating_sub(6) / 6 % 65536) as u16
 }
 
 fn ride(rt: &impl System, s: &[u8], card: Card) {
