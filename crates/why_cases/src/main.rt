@@ -10,47 +10,24 @@
 #![tactic(auto)]
 
 use card::{Found, card_in};
-use case_lines::{behind, unhex};
-use leaf::{byte_at, choose32, word_at};
+use case_lines::{behind, byte_said, put_answer, unhex, word_said};
+use leaf::{byte_at, word_at};
 use printed::{HIGHEST, put_refused};
 use rides::ride::number_of;
 use session::{Opened, Reasoned, Sample, Session, Told};
 use shell::System;
-use step::Answer;
 use step::speed::reason_number;
 use text::put_ended;
 
-// ---- a line's words
-
-fn one_byte(line: &[u8], from: usize) -> u8 {
-    let mut byte = [0u8; 1];
-    unhex(line, from, &mut byte);
-    byte_at(&byte, 0)
-}
-
-fn two_bytes(line: &[u8], from: usize) -> u16 {
-    let mut bytes = [0u8; 2];
-    unhex(line, from, &mut bytes);
-    word_at(&bytes, 0)
-}
-
 // ---- a sample's line
-
-fn put_answer(out: &mut [u8], at: usize, a: Answer) -> usize {
-    let at = put_ended(out, at, a.speed, b' ');
-    let at = put_ended(out, at, a.lamps as u32, b' ');
-    let at = put_ended(out, at, a.cause as u32, b' ');
-    let at = put_ended(out, at, a.icon as u32, b' ');
-    put_ended(out, at, choose32(a.limit, 1, 0), b' ')
-}
 
 fn put_reasoned(out: &mut [u8], reasoned: Reasoned) -> usize {
     let why = reasoned.why;
     let reason = why.reason;
-    let at = put_answer(out, 0, reasoned.answer);
-    let at = put_ended(out, at, reason_number(reason) as u32, b' ');
-    let at = put_ended(out, at, why.age as u32, b' ');
-    put_ended(out, at, why.since as u32, b'\n')
+    let at = put_answer(out, 0, reasoned.answer, b' ');
+    let at = put_ended(out, at, u32::from(reason_number(reason)), b' ');
+    let at = put_ended(out, at, u32::from(why.age), b' ');
+    put_ended(out, at, u32::from(why.since), b'\n')
 }
 
 fn put_told(out: &mut [u8], told: Told) -> usize {
@@ -83,11 +60,8 @@ fn sample_in(six: &[u8]) -> Sample {
 
 fn say_samples(rt: &impl System, session: Session, samples: &[u8]) {
     let mut going = session;
-    let n = samples.len() / 6;
-    let mut k = 0;
-    while k < n {
-        going = say_sample(rt, going, sample_in(&samples[6 * k..6 * k + 6]));
-        k += 1;
+    for six in samples.chunks_exact(6) {
+        going = say_sample(rt, going, sample_in(six));
     }
 }
 
@@ -149,12 +123,12 @@ fn why_at(rt: &impl System, line: &[u8], first: usize) {
     let second = behind(line, first, b' ');
     let third = behind(line, second, b' ');
     let braked = Braked {
-        cause: one_byte(line, second),
-        since: two_bytes(line, third),
+        cause: byte_said(line, second),
+        since: word_said(line, third),
     };
     start_at(
         rt,
-        one_byte(line, first),
+        byte_said(line, first),
         braked,
         line,
         behind(line, third, b' '),
