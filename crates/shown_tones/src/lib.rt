@@ -5,7 +5,7 @@
 // The functions type from the place `at` on, as those of `text` do. There is no `requires`.
 #![tactic(auto)]
 
-ghost use Rattle.std.specs.Prelude.{◌≡◌, ◌+◌, ◌-◌, ◌*◌, ◌%◌, eqb};
+ghost use Rattle.std.specs.Prelude.{◌≡◌, ◌+◌, ◌-◌, ◌*◌, ◌%◌, ◌++◌, eqb};
 ghost use Rattle.std.specs.Option.{MatchOption};
 ghost use Rattle.std.specs.Float.Ieee.Scale.{finite};
 ghost use Rattle.leaf.specs.Answers.{refusal_of};
@@ -15,7 +15,7 @@ ghost use Rattle.tone.specs.Tones.{all_finite, share};
 ghost use Rattle.tone.specs.declared.Reading.TheVariants.{Nothing};
 ghost use Rattle.text.specs.Hex.{hex_value};
 ghost use Rattle.text.specs.Typing.{typed, Held};
-ghost use Rattle.text.specs.Words.{ascii, word_of};
+ghost use Rattle.text.specs.Words.{ascii, word_of, labelled};
 ghost use Rattle.shown_tones.specs.Shown.{row_kind, row_name, is_ordered, ends_by128, ends_by_twice_low, reason_of, shared_by, reason_text, row_text, length_text, version_text, place_text, fault_text, bad_text, sheet_text, shown_sheet};
 ghost use Rattle.shown_tones.specs.Shown.{is_blank, bytes_in, only_digits, is_tone, bits_of, reading_text, given_text, tone_text, other_text, shown_tone};
 
@@ -25,14 +25,21 @@ use tone::{Fault, Reading, ToneAnswer, ToneRow, float_of};
 
 // ---- a sheet's refusal
 
+fn put_beacon(out: &mut [u8], at: usize, k: u32) -> usize
+    ensures { (out.new, result) ≡ typed (labelled (ascii " (beacon ") k ++ ascii ")") (out.old, at) }
+{
+    let at = put_labelled(out, at, b" (beacon ", k);
+    put_text(out, at, b")")
+}
+
+#[tactic(auto, unfolding(crate::specs::Shown::row_kind))]
 fn put_row_kind(out: &mut [u8], at: usize, k: u32) -> usize
     ensures { (out.new, result) ≡ typed (row_kind k) (out.old, at) }
 {
     if k == 0 {
         return put_text(out, at, b" (permanent tone)");
     }
-    let at = put_labelled(out, at, b" (beacon ", k);
-    put_text(out, at, b")")
+    put_beacon(out, at, k)
 }
 
 fn put_row_name(out: &mut [u8], at: usize, k: u32) -> usize
@@ -83,12 +90,14 @@ fn is_ordered(r: ToneRow) -> bool
     32.0 <= r.low && r.low <= r.centre && r.centre <= r.high
 }
 
+#[tactic(auto, using(tone::proofs::Laws::high_is))]
 fn ends_by_128(r: ToneRow) -> bool
     ensures { result ≡ ends_by128 r }
 {
     r.high <= 128.0
 }
 
+#[tactic(auto, using(tone::proofs::Laws::two_is))]
 fn ends_by_twice_low(r: ToneRow) -> bool
     ensures { result ≡ ends_by_twice_low r }
 {
@@ -184,6 +193,7 @@ fn put_version(out: &mut [u8], at: usize, area: &[u8]) -> usize
     put_labelled(out, at, b", must be ", 1)
 }
 
+#[tactic(auto, unfolding(crate::specs::Shown::place_text))]
 fn put_place(out: &mut [u8], at: usize, area: &[u8], place: u8) -> usize
     ensures { (out.new, result) ≡ typed (place_text area.now place) (out.old, at) }
 {
@@ -212,6 +222,7 @@ fn put_bad(out: &mut [u8], at: usize, number: u8) -> usize
     put_text(out, at, b": tone sheet bad\n")
 }
 
+#[tactic(auto, unfolding(crate::specs::Shown::sheet_text))]
 fn put_why(out: &mut [u8], at: usize, area: &[u8], why: Refusal) -> usize
     ensures { (out.new, result) ≡ typed (sheet_text area.now (refusal_of why)) (out.old, at) }
 {
@@ -221,6 +232,7 @@ fn put_why(out: &mut [u8], at: usize, area: &[u8], why: Refusal) -> usize
     }
 }
 
+#[tactic(auto, unfolding(crate::specs::Shown::shown_sheet, crate::specs::Shown::sheet_text, text::specs::Typing::typed))]
 fn put_sheet(area: &[u8], out: &mut [u8]) -> usize
     ensures { (out.new, result) ≡ typed (shown_sheet area.now) (out.old, 0) }
 {
@@ -286,6 +298,7 @@ fn bits_in(line: &[u8]) -> u32
     bits
 }
 
+#[tactic(auto, unfolding(crate::specs::Shown::reading_text))]
 fn put_nothing(out: &mut [u8], at: usize) -> usize
     ensures { (out.new, result) ≡ typed (reading_text Nothing) (out.old, at) }
 {
@@ -309,6 +322,7 @@ fn put_reading(out: &mut [u8], at: usize, reading: Reading) -> usize
     }
 }
 
+#[tactic(auto, using(text::specs::Typing::then_typed), unfolding(crate::specs::Shown::given_text))]
 fn put_given(out: &mut [u8], at: usize, bits: u32, reading: Reading) -> usize
     ensures { (out.new, result) ≡ typed (given_text bits reading) (out.old, at) }
 {
@@ -317,6 +331,7 @@ fn put_given(out: &mut [u8], at: usize, bits: u32, reading: Reading) -> usize
     put_text(out, at, b"\n")
 }
 
+#[tactic(auto, using(crate::proofs::Texts::answer_refused), unfolding(crate::specs::Shown::tone_text, crate::specs::Shown::answer_text))]
 fn put_tone(area: &[u8], bits: u32, out: &mut [u8], at: usize) -> usize
     ensures { (out.new, result) ≡ typed (tone_text area.now bits) (out.old, at) }
 {
