@@ -4,28 +4,12 @@ use mathlib.Core.Path.{◌≡◌, refl, sym, ap, ◌∙◌}
 use mathlib.Core.Bool.{true, false}
 use mathlib.Core.List.{List, [], ◌∷◌, ◌++◌, append_assoc, flatten}
 use borrow.Author.Tests.{lt-ltb, le-ltb}
-use Rattle.leaf.specs.Answers.{Answer, refusal_of}
-use Rattle.leaf.specs.declared.Refusal.{Refusal}
-use Rattle.leaf.specs.declared.Refusal.TheVariants.{Number, At}
-use Rattle.card.specs.declared.Card.{Card}
+use Rattle.leaf.specs.Answers.{Answer}
 use Rattle.step.specs.declared.Answer.{Answer as Told}
-use Rattle.rides.specs.Ride.{number_of, shown_of}
-use Rattle.receiver.specs.Receiver.{with_status, started_after, quietly, refused_with, opened_with, head_takes, sample_takes, open_takes, take_as, take_of, whole_in, end_as, end_of, received_all, shown_all, received_pieces, shown_pieces}
+use Rattle.rides.specs.Ride.{shown_of}
+use Rattle.receiver.specs.Receiver.{with_status, quietly, refused_with, head_takes, sample_takes, open_takes, take_as, take_of, whole_in, end_as, end_of, received_all, shown_all, received_pieces, shown_pieces}
 use Rattle.receiver.specs.declared.Receiver.{Receiver}
 use Rattle.receiver.specs.declared.Status.TheVariants.{Open, Ended, Refused}
-
--- ---- the code's cases
-
--- a card that is refused starts no receiver
-pub start_refused : (card : Card) (why : Refusal) → started_after (refusal_of why) card ≡ refusal_of why
-start_refused card (Number n) = refl
-start_refused card (At n place) = refl
-
--- a refused opening shows its number, without the place
-pub opened_refused : (r : Receiver) (why : Refusal) → opened_with r (refusal_of why) ≡ refused_with (number_of why) r
-unfolding opened_with
-opened_refused r (Number n) = refl
-opened_refused r (At n place) = refl
 
 -- ---- pieces
 

@@ -9,7 +9,7 @@ use borrow.Author.Tests.{leb-false, lt-leb}
 use Rattle.leaf.specs.Choosing.{pick}
 use Rattle.leaf.specs.Numbers.{code_top, buttons_top}
 use Rattle.leaf.specs.Checks.{or_fault}
-use Rattle.leaf.specs.Answers.{Answer, refused}
+use Rattle.leaf.specs.Answers.{Answer, refused, numbered_refusal}
 use Rattle.step.specs.declared.Answer.{Answer as Told}
 use Rattle.session.specs.declared.Sample.{Sample}
 use Rattle.session.specs.declared.Session.{Session}
@@ -111,7 +111,7 @@ module _ (s : Session) (x : Sample) (inside : inside_of s ≡ true) where
 -- a sample that is refused
 turn_nine : (s : Session) (x : Sample) → refused_by s x ≡ 9
     → (turn_shows (fresh_ride s) x ≡ refused 9 ∷ []) × ((turn_of (fresh_ride s) x).ride.ended ≡ 9)
-unfolding turn_shows turn_of told_of sample_of answer_to
+unfolding turn_shows turn_of told_of sample_of answer_to numbered_refusal
 turn_nine s x e = (rw e, rw e)
 
 -- the last byte: the sample is run

@@ -8,13 +8,12 @@ use mathlib.Core.List.{List, ◌∷◌}
 use mathlib.Core.Logic.{◌⊎◌, inl, inr}
 use lib.Dec.{eqb, ltb}
 use borrow.Author.Tests.{eqb-true, ltb-true}
+use Rattle.std.specs.Prelude.{Ok, Err}
 use Rattle.leaf.specs.Choosing.{pick}
 use Rattle.leaf.specs.Answers.{Answer, given, refused, refused_at}
 use Rattle.session.specs.declared.Sample.{Sample}
 use Rattle.session.specs.declared.Session.{Session}
-use Rattle.session.specs.declared.Outcome.{Outcome}
-use Rattle.session.specs.declared.Outcome.TheVariants as outcome
-use Rattle.session.specs.Session.{open_session, sample_of}
+use Rattle.session.specs.Session.{Outcome, open_session, sample_of}
 use Rattle.rides.specs.Ride.{fresh_ride, number_of, told_of, turn_of}
 use Rattle.rides.specs.declared.ride.Shown.TheVariants.{Nothing}
 use Rattle.receiver.specs.Receiver.{with_stated, with_part, with_session, with_status, counted_in, no_part, quietly, refused_with, head_fits, stated_with, opened_with, head_takes, place_in, part_fits, part_with, completed_by, sample_takes, open_takes, take_as, take_of, received_all}
@@ -63,11 +62,11 @@ module _ (r : Receiver) (was : r.status ≡ Open) where
 
   told_step : (s : Session) (o : Outcome) → place_in r ≡ 5 → Step r (completed_by r (told_of s o))
   unfolding completed_by told_of refused_with
-  told_step s (outcome.Answered a) five = inl (record { was = was; going = was; counted = refl; shows = inr five; stated = λ h. refl })
-  told_step s (outcome.Refused why) five = cases (eqb (number_of why) 0)
+  told_step s (Ok a) five = inl (record { was = was; going = was; counted = refl; shows = inr five; stated = λ h. refl })
+  told_step s (Err why) five = cases (eqb (number_of why) 0)
     where
       cases : (none : Bool)
-          → Step r (record { receiver = pick none (counted_in (with_part no_part (with_session s r))) (with_status (Refused (number_of why)) r); shown = (told_of s (outcome.Refused why)).shown })
+          → Step r (record { receiver = pick none (counted_in (with_part no_part (with_session s r))) (with_status (Refused (number_of why)) r); shown = (told_of s (Err why)).shown })
       cases true = inl (record { was = was; going = was; counted = refl; shows = inr five; stated = λ h. refl })
       cases false = refused_step (number_of why) r
 

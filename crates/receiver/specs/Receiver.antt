@@ -2,10 +2,11 @@
 -- "Held between calls: at most 5 bytes of a sample or the head, stated length, bytes taken, session" (a10): a receiver holds these and its
 -- status, and nothing else; of the head's bytes what they state.
 -- What a byte does to it, what an announced end does, and then whole pieces. (a1 to a11 are the readings of 02.)
-use Rattle.std.specs.Prelude.{ℕ, ◌+◌, ◌*◌, ◌/◌, ◌%◌, ◌≡◌, Bool, true, false, ◌&&◌, List, [], ◌∷◌, ◌++◌, leb, ltb, eqb}
+use Rattle.std.specs.Prelude.{ℕ, ◌+◌, ◌*◌, ◌/◌, ◌%◌, ◌≡◌, Bool, true, false, ◌&&◌, List, [], ◌∷◌, ◌++◌, Result, leb, ltb, eqb}
 use Rattle.leaf.specs.Choosing.{pick}
 use Rattle.leaf.specs.Numbers.{code_top, buttons_top}
-use Rattle.leaf.specs.Answers.{Answer, given, refused, refused_at, refusal_of}
+use Rattle.leaf.specs.Answers.{Answer, given, refused, refused_at, on_paper}
+use Rattle.leaf.specs.declared.refusal.Refusal.{Refusal}
 use Rattle.card.specs.declared.Card.{Card}
 use Rattle.step.specs.declared.Answer.{Answer as Told}
 use Rattle.session.specs.declared.Sample.{Sample}
@@ -19,8 +20,6 @@ use Rattle.receiver.specs.declared.Status.{Status}
 use Rattle.receiver.specs.declared.Status.TheVariants as status
 use Rattle.receiver.specs.declared.Receiver.{Receiver}
 use Rattle.receiver.specs.declared.Received.{Received}
-use Rattle.receiver.specs.declared.Started.{Started}
-use Rattle.receiver.specs.declared.Started.TheVariants as started
 
 -- ---- a receiver with one member changed, all else as it was
 
@@ -47,9 +46,8 @@ abbrev pub fresh_receiver : Card → Receiver
 fresh_receiver card = record { session = fresh_session card 0; stated = 0; taken = 0; part = no_part; status = status.Open }
 
 -- what each case of a start's answer is on paper
-abbrev pub started_of : Started → Answer Receiver
-started_of (started.Ready r) = given r
-started_of (started.Refused why) = refusal_of why
+abbrev pub started_of : Result Receiver Refusal → Answer Receiver
+started_of = on_paper
 
 -- the card is judged as the opening judges it: "5; from g 2, 5" (a11), 5 with its place
 abbrev pub started_after : Answer Unit → Card → Answer Receiver

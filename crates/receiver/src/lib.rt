@@ -6,6 +6,7 @@
 #![tactic(auto)]
 
 ghost use Rattle.std.specs.Prelude.{◌≡◌, ◌<◌};
+ghost use Rattle.leaf.specs.Answers.{number_of};
 ghost use Rattle.receiver.specs.Receiver.{with_part, with_session, with_status, no_part, fresh_receiver, started_of, start_receiver, quietly, refused_with, counted_in, high_in, low_in, length_fits, head_fits, stated_with, opened_with, head_takes, part_fits, part_with, completed_by, sample_takes, open_takes, take_of, end_as, end_of};
 ghost use Rattle.receiver.specs.declared.Status.TheVariants.{Open};
 ghost use Rattle.session.specs.Session.{open_session};
@@ -13,13 +14,14 @@ ghost use Rattle.session.specs.Session.{open_session};
 use card::Card;
 use desk::state::Desk;
 use leaf::{BUTTONS_TOP, CODE_TOP, Refusal, high};
-use rides::ride::{Ride, Shown, Turned, number_of};
-use session::{Judged, Opened, Sample, Session, judge};
+use rides::ride::{Ride, Shown, Turned};
+use session::{Sample, Session, judge};
 
 // The length of the longest recording, 6 + 6 * 10,000.
 const LENGTH_TOP: u16 = 60006;
 
-// Open while bytes or the end are to come; ended well; or refused by this number, for good.
+// Open while bytes or the end are to come; ended well; or refused by this number, for good. A number and no Refusal: `take` and `end` are
+// promised of every receiver handed in, whatever number it was refused by.
 #[derive(Clone, Copy)]
 pub enum Status {
     Open,
@@ -47,25 +49,18 @@ pub struct Received {
     pub shown: Shown,
 }
 
-// What starting gives.
-#[derive(Clone, Copy)]
-pub enum Started {
-    Ready(Receiver),
-    Refused(Refusal),
-}
-
 // ---- a pair of bytes, the high one first
 
 fn high_in(b: u8) -> u16
     ensures { result ≡ high_in b }
 {
-    (b as u16) * 256
+    u16::from(b) * 256
 }
 
 fn low_in(x: u16, b: u8) -> u16
     ensures { result ≡ low_in x b }
 {
-    x / 256 * 256 + (b as u16)
+    x / 256 * 256 + u16::from(b)
 }
 
 // ---- the head
@@ -74,7 +69,7 @@ fn low_in(x: u16, b: u8) -> u16
 fn length_fits(stated: u16) -> bool
     ensures { result ≡ length_fits stated }
 {
-    (6 <= stated) & (stated <= LENGTH_TOP) & (stated % 6 == 0)
+    6 <= stated && stated <= LENGTH_TOP && stated % 6 == 0
 }
 
 // May the byte stand at this place of the head: where not, no good recording begins so.
@@ -83,8 +78,7 @@ fn head_fits(stated: u16, place: u16, b: u8) -> bool
     ensures { result ≡ head_fits stated place b }
 {
     match place {
-        0 => b == 0,
-        1 => b == 0,
+        0 | 1 => b == 0,
         2 => b <= high(LENGTH_TOP),
         3 => length_fits(low_in(stated, b)),
         4 => b == 1,
@@ -132,34 +126,28 @@ fn part_fits(place: u16, b: u8) -> bool
 
 // The sample with the byte of this place.
 #[tactic(auto, unfolding(crate::specs::Receiver::part_with))]
-fn part_with(mut x: Sample, place: u16, b: u8) -> Sample
+fn part_with(x: Sample, place: u16, b: u8) -> Sample
     ensures { result ≡ part_with x place b }
 {
     match place {
-        0 => {
-            x.pulses = high_in(b);
-            x
-        }
-        1 => {
-            x.pulses = low_in(x.pulses, b);
-            x
-        }
-        2 => {
-            x.beacon = b;
-            x
-        }
-        3 => {
-            x.buttons = high_in(b);
-            x
-        }
-        4 => {
-            x.buttons = low_in(x.buttons, b);
-            x
-        }
-        _ => {
-            x.mode = b;
-            x
-        }
+        0 => Sample {
+            pulses: high_in(b),
+            ..x
+        },
+        1 => Sample {
+            pulses: low_in(x.pulses, b),
+            ..x
+        },
+        2 => Sample { beacon: b, ..x },
+        3 => Sample {
+            buttons: high_in(b),
+            ..x
+        },
+        4 => Sample {
+            buttons: low_in(x.buttons, b),
+            ..x
+        },
+        _ => Sample { mode: b, ..x },
     }
 }
 
@@ -170,7 +158,7 @@ impl Receiver {
     {
         Receiver {
             session: Session {
-                card: card,
+                card,
                 train: 0,
                 desk: Desk::fresh(),
             },
@@ -183,29 +171,18 @@ impl Receiver {
 
     // Starts a receiver on this card: refusal 2, then 5 with its place, before any byte.
     #[tactic(auto, unfolding(crate::specs::Receiver::start_receiver))]
-    pub fn start(card: Card) -> Started
+    pub fn start(card: Card) -> Result<Receiver, Refusal>
         ensures { started_of result ≡ start_receiver card }
     {
-        let judged = judge(card);
-        match judged {
-            Judged::Refused(why) => Started::Refused(why),
-            Judged::Fine => Started::Ready(Receiver::fresh(card)),
-        }
+        judge(card)?;
+        Ok(Receiver::fresh(card))
     }
 
     // The status changed, all else as it was.
     fn with_status(self, status: Status) -> Receiver
         ensures { result ≡ with_status status self }
     {
-        let session = self.session;
-        let part = self.part;
-        Receiver {
-            session: session,
-            stated: self.stated,
-            taken: self.taken,
-            part: part,
-            status: status,
-        }
+        Receiver { status, ..self }
     }
 
     // ---- what becomes of a byte
@@ -222,9 +199,10 @@ impl Receiver {
 
     // It is refused: the status alone changes.
     #[tactic(auto, unfolding(crate::specs::Receiver::refused_with))]
-    fn refuse(self, n: u8) -> Received
-        ensures { result ≡ refused_with n self }
+    fn refuse(self, why: Refusal) -> Received
+        ensures { result ≡ refused_with (number_of why) self }
     {
+        let n = why.number();
         Received {
             receiver: self.with_status(Status::Refused(n)),
             shown: Shown::Refused(n),
@@ -236,13 +214,11 @@ impl Receiver {
         requires { self.taken < 65535 }
         ensures { result ≡ counted_in (with_part part (with_session session self)) }
     {
-        let stays = self.status;
         Receiver {
-            session: session,
-            stated: self.stated,
+            session,
+            part,
             taken: self.taken + 1,
-            part: part,
-            status: stays,
+            ..self
         }
     }
 
@@ -254,35 +230,29 @@ impl Receiver {
         requires { self.taken < 65535 }
         ensures { result ≡ opened_with self (open_session self.session.card train) }
     {
-        let card = self.session.card;
-        let opened = Session::open(card, train);
-        match opened {
-            Opened::Ready(session) => {
-                let held = self.part;
-                self.past(session, held).quiet()
-            }
-            Opened::Refused(why) => self.refuse(number_of(why)),
+        match Session::open(self.session.card, train) {
+            Ok(session) => self.past(session, self.part).quiet(),
+            Err(why) => self.refuse(why),
         }
     }
 
     #[tactic(auto, unfolding(crate::specs::Receiver::head_takes))]
-    fn take_head(mut self, b: u8) -> Received
+    fn take_head(self, b: u8) -> Received
         requires { self.taken < 65535 }
         ensures { result ≡ head_takes self b }
     {
-        let place = self.taken;
-        let stated = self.stated;
-        let fits = head_fits(stated, place, b);
-        if !fits {
-            return self.refuse(14);
+        if !head_fits(self.stated, self.taken, b) {
+            return self.refuse(Refusal::BadRecording);
         }
-        let last = place == 5;
-        if last {
+        if self.taken == 5 {
             return self.take_train(b);
         }
-        self.stated = stated_with(stated, place, b);
-        self.taken += 1;
-        self.quiet()
+        Receiver {
+            stated: stated_with(self.stated, self.taken, b),
+            taken: self.taken + 1,
+            ..self
+        }
+        .quiet()
     }
 
     // ---- the samples
@@ -293,19 +263,13 @@ impl Receiver {
         requires { self.taken < 65535 }
         ensures { result ≡ completed_by self turned }
     {
-        let shown = turned.shown;
-        let accepted = turned.ride.ended == 0;
-        if accepted {
-            let session = turned.ride.session;
-            return Received {
-                receiver: self.past(session, no_part()),
-                shown: shown,
-            };
-        }
-        Received {
-            receiver: self.with_status(Status::Refused(turned.ride.ended)),
-            shown: shown,
-        }
+        let Turned { ride, shown } = turned;
+        let receiver = if ride.ended == 0 {
+            self.past(ride.session, no_part())
+        } else {
+            self.with_status(Status::Refused(ride.ended))
+        };
+        Received { receiver, shown }
     }
 
     #[tactic(auto, unfolding(crate::specs::Receiver::sample_takes))]
@@ -314,18 +278,14 @@ impl Receiver {
         ensures { result ≡ sample_takes self b }
     {
         let place = self.taken % 6;
-        let fits = part_fits(place, b);
-        if !fits {
-            return self.refuse(9);
+        if !part_fits(place, b) {
+            return self.refuse(Refusal::SampleOutOfRange);
         }
-        let session = self.session;
-        let held = self.part;
-        let part = part_with(held, place, b);
-        let last = place == 5;
-        if last {
-            return self.complete(Ride::fresh(session).turn(part));
+        let part = part_with(self.part, place, b);
+        if place == 5 {
+            return self.complete(Ride::fresh(self.session).turn(part));
         }
-        self.past(session, part).quiet()
+        self.past(self.session, part).quiet()
     }
 
     // ---- a byte, and the end
@@ -340,7 +300,7 @@ impl Receiver {
         if self.taken < self.stated {
             return self.take_sample(b);
         }
-        self.refuse(14)
+        self.refuse(Refusal::BadRecording)
     }
 
     // One byte more. A receiver that has refused stays as it is.
@@ -348,10 +308,9 @@ impl Receiver {
     pub fn take(self, b: u8) -> Received
         ensures { result ≡ take_of self b }
     {
-        let status = self.status;
-        match status {
+        match self.status {
             Status::Open => self.take_open(b),
-            Status::Ended => self.refuse(14),
+            Status::Ended => self.refuse(Refusal::BadRecording),
             Status::Refused(_) => self.quiet(),
         }
     }
@@ -360,11 +319,10 @@ impl Receiver {
     fn end_open(self) -> Received
         ensures { result ≡ end_as Open self }
     {
-        let whole = (6 <= self.taken) & (self.taken == self.stated);
-        if whole {
+        if 6 <= self.taken && self.taken == self.stated {
             return self.with_status(Status::Ended).quiet();
         }
-        self.refuse(14)
+        self.refuse(Refusal::BadRecording)
     }
 
     // The sender announces the end: 14 where bytes are missing.
@@ -372,11 +330,9 @@ impl Receiver {
     pub fn end(self) -> Received
         ensures { result ≡ end_of self }
     {
-        let status = self.status;
-        match status {
+        match self.status {
             Status::Open => self.end_open(),
-            Status::Ended => self.quiet(),
-            Status::Refused(_) => self.quiet(),
+            Status::Ended | Status::Refused(_) => self.quiet(),
         }
     }
 }
