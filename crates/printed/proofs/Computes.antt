@@ -2,6 +2,7 @@
 -- the answer of a sample.
 use Rattle.leaf.specs.Bytes.{byte, word}
 use Rattle.leaf.specs.Checks.{or_fault}
+use Rattle.leaf.specs.Answers.{numbered_refusal}
 use Rattle.card.specs.Card.{row_at, pairs_at}
 use Rattle.card.specs.Ranges.{settings_fault, fault_of, check_settings}
 use Rattle.card.specs.Reading.{functions_from, pairs_from, settings_from, answer_by, read_card, card_in}
@@ -54,7 +55,7 @@ unfolding lowest standing_cause braked window_lamps control_lamps button_lamps l
 sample = tt
 
 unfoldable pub session : Unit {0}
-unfolding beside_inside desk_inside judge_card open_session card_inside inside_of refused_by ran_of sample_of type_speed type_allowed
+unfolding numbered_refusal beside_inside desk_inside judge_card open_session card_inside inside_of refused_by ran_of sample_of type_speed type_allowed
 session = tt
 
 unfoldable pub answers : Unit {0}

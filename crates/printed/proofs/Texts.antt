@@ -7,8 +7,8 @@ use mathlib.Core.Bool.{Bool, true, false}
 use mathlib.Core.List.{List}
 use Rattle.leaf.specs.Choosing.{pick}
 use Rattle.leaf.specs.Answers.{Answer, given, refused, refused_at, refusal_of}
-use Rattle.leaf.specs.declared.Refusal.{Refusal}
-use Rattle.leaf.specs.declared.Refusal.TheVariants.{Number, At}
+use Rattle.leaf.specs.declared.refusal.Refusal.{Refusal}
+use Rattle.leaf.proofs.ByNumber.{by_number, as_it_is}
 use Rattle.card.specs.declared.Card.{Card}
 use Rattle.session.specs.Session.{open_session}
 use Rattle.rides.specs.Recording.{samples_in, most_samples, good_recording, train_of}
@@ -19,17 +19,14 @@ use Rattle.printed.specs.declared.Form.{Form}
 
 pub started_refused : (form : Form) (recording : List ℕ) (n : ℕ) (why : Refusal) → started_text form recording n (refusal_of why) ≡ refused_line (number_of why)
 unfolding started_text
-started_refused form recording n (Number m) = refl
-started_refused form recording n (At m place) = refl
+started_refused form recording n why = by_number (started_text form recording n) refused_line (λ m. refl) (λ m place. refl) why
 
 pub card_refused : (form : Form) (recording : List ℕ) (n : ℕ) (why : Refusal) → card_text form recording n (refusal_of why) ≡ refused_line (number_of why)
 unfolding card_text
-card_refused form recording n (Number m) = refl
-card_refused form recording n (At m place) = refl
+card_refused form recording n why = by_number (card_text form recording n) refused_line (λ m. refl) (λ m place. refl) why
 
 pub start_refused : (why : Refusal) (recording : List ℕ) → start_after (refusal_of why) recording ≡ refusal_of why
-start_refused (Number n) recording = refl
-start_refused (At n place) recording = refl
+start_refused why recording = as_it_is (λ read. start_after read recording) (λ m. refl) (λ m place. refl) why
 
 -- a recording with more samples than a good one can have is refused before its first
 pub capped : (form : Form) (recording : List ℕ) (read : Answer Card) → card_text form recording (min (samples_in recording) most_samples) read ≡ card_text form recording (samples_in recording) read

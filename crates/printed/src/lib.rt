@@ -11,10 +11,11 @@ ghost use Rattle.text.specs.Typing.{typed};
 ghost use Rattle.step.specs.Reason.{reason_number};
 ghost use Rattle.printed.specs.Printed.{heading, heading_of, refused_line, columns_of, shown_text, reason_text, turn_text, lines_of, started_text, card_text, start_on, printed_as};
 
-use card::{Found, card_in};
+use card::{Card, card_in};
+use leaf::Refusal;
 use rides::recording::samples;
-use rides::ride::{Ride, Shown, number_of, start};
-use session::Opened;
+use rides::ride::{Ride, Shown, start};
+use session::Session;
 use step::Answer;
 use step::speed::{Reason, reason_number};
 use text::{put_ended, put_text};
@@ -148,7 +149,7 @@ fn put_lines(form: Form, ride: Ride, recording: &[u8], n: u16, out: &mut [u8], a
 
 fn put_started(
     form: Form,
-    opened: Opened,
+    opened: Result<Session, Refusal>,
     recording: &[u8],
     n: u16,
     out: &mut [u8],
@@ -157,20 +158,24 @@ fn put_started(
     ensures { (out.new, result) ≡ typed (started_text form recording.now n (opened_of opened)) (out.old, at) }
 {
     match opened {
-        Opened::Ready(session) => put_lines(form, Ride::fresh(session), recording, n, out, at),
-        Opened::Refused(why) => put_refused(out, at, number_of(why)),
+        Ok(session) => put_lines(form, Ride::fresh(session), recording, n, out, at),
+        Err(why) => put_refused(out, at, why.number()),
     }
 }
 
-fn put_read(form: Form, found: Found, recording: &[u8], n: u16, out: &mut [u8], at: usize) -> usize
+fn put_read(
+    form: Form,
+    found: Result<Card, Refusal>,
+    recording: &[u8],
+    n: u16,
+    out: &mut [u8],
+    at: usize,
+) -> usize
     ensures { (out.new, result) ≡ typed (card_text form recording.now n (found_of found)) (out.old, at) }
 {
     match found {
-        Found::Read(card) => {
-            let opened = start(card, recording);
-            put_started(form, opened, recording, n, out, at)
-        }
-        Found::Refused(why) => put_refused(out, at, number_of(why)),
+        Ok(card) => put_started(form, start(card, recording), recording, n, out, at),
+        Err(why) => put_refused(out, at, why.number()),
     }
 }
 
@@ -184,14 +189,12 @@ fn put_ride(form: Form, card: &[u8], recording: &[u8], out: &mut [u8]) -> usize
 }
 
 // The session that the recording starts on this card, or the refusal of the reader or of the start.
-pub fn start_on(card: &[u8], recording: &[u8]) -> Opened
+#[tactic(auto, using(crate::proofs::Texts::start_refused), unfolding(crate::specs::Printed::start_on))]
+pub fn start_on(card: &[u8], recording: &[u8]) -> Result<Session, Refusal>
     ensures { opened_of result ≡ start_on card.now recording.now }
 {
-    let found = card_in(card, HIGHEST);
-    match found {
-        Found::Read(read) => start(read, recording),
-        Found::Refused(why) => Opened::Refused(why),
-    }
+    let read = card_in(card, HIGHEST)?;
+    start(read, recording)
 }
 
 // The heading, at the buffer's start. Answers how many bytes of it the buffer now holds; the rest is as it was.
