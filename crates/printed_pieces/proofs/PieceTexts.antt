@@ -8,8 +8,8 @@ use mathlib.Core.List.{List, [], ◌∷◌, ◌++◌, append_assoc, append-nil, 
 use lib.ListN.{length, get_or, take, length-append}
 use lib.Seq.{take-suc}
 use Rattle.leaf.specs.Answers.{refusal_of}
-use Rattle.leaf.specs.declared.Refusal.{Refusal}
-use Rattle.leaf.specs.declared.Refusal.TheVariants.{Number, At}
+use Rattle.leaf.specs.declared.refusal.Refusal.{Refusal}
+use Rattle.leaf.proofs.ByNumber.{by_number, as_it_is}
 use Rattle.rides.specs.Ride.{number_of}
 use Rattle.rides.specs.declared.ride.Shown.{Shown}
 use Rattle.rides.specs.declared.ride.Shown.TheVariants.{Nothing}
@@ -26,13 +26,11 @@ use Rattle.printed.proofs.Room.{shown_length}
 -- ---- the start on a card that is refused
 
 pub start_refused : (why : Refusal) → start_after (refusal_of why) ≡ refusal_of why
-start_refused (Number n) = refl
-start_refused (At n place) = refl
+start_refused why = as_it_is start_after (λ n. refl) (λ n place. refl) why
 
 pub begun_refused : (why : Refusal) → begun_text (refusal_of why) ≡ refused_line (number_of why)
 unfolding begun_text
-begun_refused (Number n) = refl
-begun_refused (At n place) = refl
+begun_refused why = by_number begun_text refused_line (λ n. refl) (λ n place. refl) why
 
 -- ---- pieces put together
 

@@ -7,35 +7,33 @@ ghost use Rattle.text.specs.Typing.{typed};
 ghost use Rattle.receiver.specs.Receiver.{started_of, received_all, end_of};
 ghost use Rattle.printed_pieces.specs.Pieces.{start_on, begun_text, start_text, piece_text, end_text};
 
-use card::{Found, card_in};
+use card::card_in;
+use leaf::Refusal;
 use printed::{Columns, HIGHEST, put_heading, put_refused, put_shown};
-use receiver::{Receiver, Started};
-use rides::ride::number_of;
+use receiver::Receiver;
 
 // What starting gives, and how many bytes of its text stand in the buffer.
 #[derive(Clone, Copy)]
 pub struct Begun {
-    pub started: Started,
+    pub started: Result<Receiver, Refusal>,
     pub length: usize,
 }
 
 // A receiver on this card, or the refusal of the reader or of the start.
-fn start_on(card: &[u8]) -> Started
+#[tactic(auto, using(crate::proofs::PieceTexts::start_refused), unfolding(crate::specs::Pieces::start_on))]
+fn start_on(card: &[u8]) -> Result<Receiver, Refusal>
     ensures { started_of result ≡ start_on card.now }
 {
-    let found = card_in(card, HIGHEST);
-    match found {
-        Found::Read(read) => Receiver::start(read),
-        Found::Refused(why) => Started::Refused(why),
-    }
+    let read = card_in(card, HIGHEST)?;
+    Receiver::start(read)
 }
 
-fn put_begun(started: Started, out: &mut [u8], at: usize) -> usize
+fn put_begun(started: Result<Receiver, Refusal>, out: &mut [u8], at: usize) -> usize
     ensures { (out.new, result) ≡ typed (begun_text (started_of started)) (out.old, at) }
 {
     match started {
-        Started::Ready(_) => at,
-        Started::Refused(why) => put_refused(out, at, number_of(why)),
+        Ok(_) => at,
+        Err(why) => put_refused(out, at, why.number()),
     }
 }
 
