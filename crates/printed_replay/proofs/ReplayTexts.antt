@@ -9,16 +9,15 @@ use lib.ListN.{length, length-append}
 use borrow.Author.Tests.{eqb-true}
 use Rattle.leaf.specs.Choosing.{pick}
 use Rattle.leaf.specs.Answers.{Answer, given, refused, refused_at, refusal_of}
-use Rattle.leaf.specs.declared.Refusal.{Refusal}
-use Rattle.leaf.specs.declared.Refusal.TheVariants.{Number, At}
+use Rattle.leaf.specs.declared.refusal.Refusal.{Refusal}
+use Rattle.leaf.proofs.ByNumber.{by_number}
+use Rattle.std.specs.Prelude.{Some, None}
 use Rattle.session.specs.declared.Session.{Session}
 use Rattle.text.specs.Decimal.{ended, blank, line}
 use Rattle.text.proofs.Lengths.{decimal-length}
 use Rattle.rides.specs.Ride.{fresh_ride, number_of}
-use Rattle.rides.specs.Replay.{due_from, ran_from, unrun_of, unrun_by, replay_of}
+use Rattle.rides.specs.Replay.{Last, due_from, ran_from, unrun_of, unrun_by, replay_of}
 use Rattle.rides.specs.declared.ride.Shown.TheVariants as shown
-use Rattle.rides.specs.declared.replay.Last.{Last}
-use Rattle.rides.specs.declared.replay.Last.TheVariants as last
 use Rattle.rides.specs.declared.replay.End.{End}
 use Rattle.rides.specs.declared.replay.End.TheVariants as end
 use Rattle.rides.proofs.Replays.{steps_low, few_samples}
@@ -32,8 +31,7 @@ use Rattle.printed_replay.specs.Quotas.{begun_text, start_text, ran_line, refuse
 
 pub begun_refused : (why : Refusal) → begun_text (refusal_of why) ≡ refused_line (number_of why)
 unfolding begun_text
-begun_refused (Number n) = refl
-begun_refused (At n place) = refl
+begun_refused why = by_number begun_text refused_line (λ n. refl) (λ n place. refl) why
 
 -- ---- where a quota ends
 
@@ -80,10 +78,10 @@ ended-length n end = simp length-append (omega (arith, decimal-length n))
 
 ran_length : (place ran : ℕ) (l : Last) → length (ran_line place ran l) ≤ 77
 unfolding ran_line shown_text
-ran_length place ran (last.Answered a) =
+ran_length place ran (Some a) =
     let rest : length (line ran (columns_of Whole a)) ≤ 66 = shown_length Whole ran (shown.Answered a) in
     rw (length-append (ended place blank) (line ran (columns_of Whole a))) (omega (arith, ended-length place blank))
-ran_length place ran last.None = simp length-append (omega (arith, decimal-length place, decimal-length ran))
+ran_length place ran None = simp length-append (omega (arith, decimal-length place, decimal-length ran))
 
 refused_at_length : (n position : ℕ) → length (refused_at_line n position) ≤ 33
 unfolding refused_at_line

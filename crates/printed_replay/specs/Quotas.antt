@@ -1,13 +1,11 @@
 -- Document 02 d), "Yesterday's lesson, an hour at a time": what the program `replay` prints, quota by quota, as texts of ASCII bytes.
-use Rattle.std.specs.Prelude.{ℕ, ◌+◌, Bool, true, false, List, [], ◌∷◌, ◌++◌}
+use Rattle.std.specs.Prelude.{ℕ, ◌+◌, Bool, true, false, List, [], ◌∷◌, ◌++◌, Some, None}
 use Rattle.leaf.specs.Choosing.{pick}
 use Rattle.leaf.specs.Answers.{Answer, given, refused, refused_at}
 use Rattle.session.specs.declared.Session.{Session}
 use Rattle.text.specs.Decimal.{ended, newline, blank, line}
 use Rattle.text.specs.Words.{ascii, refused_by}
-use Rattle.rides.specs.Replay.{replay_of}
-use Rattle.rides.specs.declared.replay.Last.{Last}
-use Rattle.rides.specs.declared.replay.Last.TheVariants as last
+use Rattle.rides.specs.Replay.{Last, replay_of}
 use Rattle.rides.specs.declared.replay.End.{End}
 use Rattle.rides.specs.declared.replay.End.TheVariants as end
 use Rattle.printed.specs.Printed.{refused_line, columns_of, start_on}
@@ -38,8 +36,8 @@ none_word = ascii "none" ++ newline ∷ []
 -- the place that the quota began at, "the number of samples run", and "the last answer (none if no sample ran)": its five numbers, S, lamps, cause, icon
 -- and limit, or the word
 unfoldable pub ran_line : ℕ → ℕ → Last → List ℕ
-ran_line place ran (last.Answered a) = line place (ran ∷ columns_of Whole a)
-ran_line place ran last.None = ended place blank ++ ended ran blank ++ none_word
+ran_line place ran (Some a) = line place (ran ∷ columns_of Whole a)
+ran_line place ran None = ended place blank ++ ended ran blank ++ none_word
 
 -- "the sample's own, with its position"
 unfoldable pub refused_at_line : ℕ → ℕ → List ℕ

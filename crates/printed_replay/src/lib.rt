@@ -13,10 +13,12 @@ ghost use Rattle.printed_replay.specs.Word.{most_quota, quota_in};
 ghost use Rattle.printed.specs.Printed.{start_on};
 ghost use Rattle.printed_replay.specs.Quotas.{heading, begun_text, start_text, ran_line, refused_at_line, is_refused, replayed_text, quota_text, place_after};
 
+use leaf::Refusal;
 use printed::{Columns, put_refused, put_shown, start_on};
-use rides::replay::{End, Last, replay};
-use rides::ride::{Shown, number_of};
-use session::{Opened, Session};
+use rides::replay::{End, replay};
+use rides::ride::Shown;
+use session::Session;
+use step::Answer;
 use text::{hex_digit, put_ended, put_labelled, put_text};
 
 // ---- the start
@@ -39,16 +41,16 @@ pub fn print_heading(out: &mut [u8]) -> usize
 // What starting gives, and how many bytes of its text stand in the buffer.
 #[derive(Clone, Copy)]
 pub struct Begun {
-    pub opened: Opened,
+    pub opened: Result<Session, Refusal>,
     pub length: usize,
 }
 
-fn put_begun(opened: Opened, out: &mut [u8], at: usize) -> usize
+fn put_begun(opened: Result<Session, Refusal>, out: &mut [u8], at: usize) -> usize
     ensures { (out.new, result) ≡ typed (begun_text (opened_of opened)) (out.old, at) }
 {
     match opened {
-        Opened::Ready(_) => at,
-        Opened::Refused(why) => put_refused(out, at, number_of(why)),
+        Ok(_) => at,
+        Err(why) => put_refused(out, at, why.number()),
     }
 }
 
@@ -77,13 +79,13 @@ pub fn print_start(card: &[u8], recording: &[u8], out: &mut [u8]) -> Begun
 // ---- a quota
 
 #[tactic(auto, unfolding(crate::specs::Quotas::ran_line, text::specs::Typing::typed, printed::specs::Printed::shown_text), using(text::specs::Typing::then_typed))]
-fn put_ran(out: &mut [u8], at: usize, place: u16, ran: u16, last: Last) -> usize
+fn put_ran(out: &mut [u8], at: usize, place: u16, ran: u16, last: Option<Answer>) -> usize
     ensures { (out.new, result) ≡ typed (ran_line place ran last) (out.old, at) }
 {
     let at = put_ended(out, at, place.into(), b' ');
     match last {
-        Last::Answered(a) => put_shown(Columns::Whole, out, at, ran.into(), Shown::Answered(a)),
-        Last::None => {
+        Some(a) => put_shown(Columns::Whole, out, at, ran.into(), Shown::Answered(a)),
+        None => {
             let at = put_ended(out, at, ran.into(), b' ');
             put_text(out, at, b"none\n")
         }
@@ -107,7 +109,14 @@ fn is_refused(end: End) -> bool
 
 // The lines of a replay that began at this place.
 #[tactic(auto, unfolding(crate::specs::Quotas::replayed_text), using(text::specs::Typing::then_typed))]
-fn put_replayed(out: &mut [u8], at: usize, place: u16, ran: u16, last: Last, end: End) -> usize
+fn put_replayed(
+    out: &mut [u8],
+    at: usize,
+    place: u16,
+    ran: u16,
+    last: Option<Answer>,
+    end: End,
+) -> usize
     ensures { (out.new, result) ≡ typed (replayed_text place ran last end) (out.old, at) }
 {
     match end {

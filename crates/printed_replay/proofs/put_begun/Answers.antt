@@ -3,9 +3,9 @@ use Rattle.printed_replay.specs.Quotas.{begun_text}
 use Rattle.printed_replay.proofs.ReplayTexts.{begun_refused}
 use Rattle.printed_replay.proofs.put_begun.Goals as goal
 
-pub returns-in-Ready : goal.returns-in-Ready
+pub returns-in-Ok : goal.returns-in-Ok
 unfolding begun_text typed
-returns-in-Ready c = simp c.in-Ready.is
+returns-in-Ok c = simp c.in-Ok.is
 
-pub returns-in-Refused : goal.returns-in-Refused
-returns-in-Refused c = rw (c.in-Refused.is, begun_refused, ← c.number_of.ensures) c.put_refused.ensures
+pub returns-in-Err : goal.returns-in-Err
+returns-in-Err c = rw (c.in-Err.is, begun_refused, ← c.number.ensures) c.put_refused.ensures
