@@ -6,8 +6,8 @@ use mathlib.Core.Bool.{Bool, true, false}
 use mathlib.Core.List.{List}
 use Rattle.leaf.specs.Choosing.{pick}
 use Rattle.leaf.specs.Answers.{Answer, given, refused, refused_at, refusal_of}
-use Rattle.leaf.specs.declared.Refusal.{Refusal}
-use Rattle.leaf.specs.declared.Refusal.TheVariants.{Number, At}
+use Rattle.leaf.specs.declared.refusal.Refusal.{Refusal}
+use Rattle.leaf.proofs.ByNumber.{by_number}
 use Rattle.card.specs.declared.Card.{Card}
 use Rattle.card.specs.Reading.{card_in}
 use Rattle.session.specs.Session.{open_session}
@@ -20,8 +20,7 @@ use Rattle.printed_why.specs.declared.Telling.{Telling}
 
 pub below_refused : (telling : Telling) (recording : List ℕ) (n : ℕ) (why : Refusal) → why_below telling recording n (refusal_of why) ≡ refused_line (number_of why)
 unfolding why_below
-below_refused telling recording n (Number m) = refl
-below_refused telling recording n (At m place) = refl
+below_refused telling recording n why = by_number (why_below telling recording n) refused_line (λ m. refl) (λ m place. refl) why
 
 -- a recording with more samples than a good one can have is refused before its first
 capped_after : (telling : Telling) (recording : List ℕ) (read : Answer Card)

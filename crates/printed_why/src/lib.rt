@@ -11,10 +11,11 @@ ghost use Rattle.text.specs.Typing.{typed};
 ghost use Rattle.printed.specs.Printed.{start_on};
 ghost use Rattle.printed_why.specs.PrintedWhy.{why_heading, telling_text, reason_text, why_lines_of, why_below, printed_why};
 
+use leaf::Refusal;
 use printed::{put_refused, start_on};
 use rides::recording::samples;
-use rides::ride::{Ride, Shown, number_of};
-use session::{Opened, Session};
+use rides::ride::{Ride, Shown};
+use session::Session;
 use text::put_text;
 use why_lines::{put_why, put_words};
 
@@ -103,7 +104,7 @@ fn put_lines(
 
 fn put_started(
     telling: Telling,
-    opened: Opened,
+    opened: Result<Session, Refusal>,
     recording: &[u8],
     n: u16,
     out: &mut [u8],
@@ -112,8 +113,8 @@ fn put_started(
     ensures { (out.new, result) ≡ typed (why_below telling recording.now n (opened_of opened)) (out.old, at) }
 {
     match opened {
-        Opened::Ready(session) => put_lines(telling, Ride::fresh(session), recording, n, out, at),
-        Opened::Refused(why) => put_refused(out, at, number_of(why)),
+        Ok(session) => put_lines(telling, Ride::fresh(session), recording, n, out, at),
+        Err(why) => put_refused(out, at, why.number()),
     }
 }
 
