@@ -13,12 +13,11 @@
 // with its offset's bit pattern and the ride's beacon code.
 #![tactic(auto)]
 
-use card::{Pairs, Reading, Row, Settings, Written};
+use card::{Pairs, Row, Settings};
 use case_lines::behind;
 use leaf::{Refusal, byte_at, long_at, word_at};
 use shell::System;
 use text::{hex_digit, put, put_float, put_hex, put_labelled, put_refusal, put_text};
-use tone::ToneAnswer;
 
 const MOST: usize = 256;
 
@@ -98,8 +97,8 @@ fn put_refused(out: &mut [u8], at: usize, why: Refusal) -> usize {
 fn put_card(out: &mut [u8], at: usize, area: &[u8], highest: u8) -> usize {
     let reading = card::read(area, highest);
     match reading {
-        Reading::Read(s) => put_settings(out, at, s),
-        Reading::Refused(why) => put_refused(out, at, why),
+        Ok(s) => put_settings(out, at, s),
+        Err(why) => put_refused(out, at, why),
     }
 }
 
@@ -114,10 +113,10 @@ fn put_bytes(out: &mut [u8], at: usize, bytes: &[u8]) -> usize {
     place
 }
 
-fn put_outcome(out: &mut [u8], at: usize, answer: Written) -> usize {
+fn put_outcome(out: &mut [u8], at: usize, answer: Result<(), Refusal>) -> usize {
     match answer {
-        Written::Done => put_text(out, at, b" written"),
-        Written::NotWritten(why) => put_refused(out, at, why),
+        Ok(()) => put_text(out, at, b" written"),
+        Err(why) => put_refused(out, at, why),
     }
 }
 
@@ -145,11 +144,11 @@ fn put_reading(out: &mut [u8], at: usize, reading: tone::Reading) -> usize {
 fn put_tone(out: &mut [u8], at: usize, area: &[u8], bits: u32) -> usize {
     let answer = tone::classify(area, tone::float_of(bits));
     match answer {
-        ToneAnswer::Reads(reading) => {
+        Ok(reading) => {
             let at = put_reading(out, at, reading);
             put_labelled(out, at, b" ", u32::from(reading.code()))
         }
-        ToneAnswer::Refused(why) => put_refused(out, at, why),
+        Err(why) => put_refused(out, at, why),
     }
 }
 

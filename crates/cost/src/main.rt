@@ -4,9 +4,9 @@
 // Standard input, big-endian: 49 bytes with the card at their start, two with the number of rounds, the recording.
 #![tactic(auto)]
 
-use card::{Card, Found, card_in};
+use card::{Card, card_in};
 use leaf::{Refusal, byte_at, long_at, word_at};
-use session::{Opened, Outcome, Sample, Session};
+use session::{Sample, Session};
 use shell::System;
 use step::Answer;
 
@@ -50,22 +50,15 @@ fn rest_of(answer: Answer) -> u32 {
         + u32::from(answer.limit) * 67108864
 }
 
-fn number_of(refusal: Refusal) -> u8 {
-    match refusal {
-        Refusal::Number(number) => number,
-        Refusal::At(number, _) => number,
-    }
-}
-
 impl Sums {
-    fn with(self, outcome: Outcome) -> Sums {
+    fn with(self, outcome: Result<Answer, Refusal>) -> Sums {
         match outcome {
-            Outcome::Answered(answer) => Sums {
+            Ok(answer) => Sums {
                 speeds: fold(self.speeds, answer.speed),
                 rest: fold(self.rest, rest_of(answer)),
             },
-            Outcome::Refused(refusal) => Sums {
-                speeds: fold(self.speeds, u32::from(number_of(refusal))),
+            Err(refusal) => Sums {
+                speeds: fold(self.speeds, u32::from(refusal.number())),
                 rest: fold(self.rest, 134217728),
             },
         }
@@ -111,12 +104,12 @@ fn ride(rt: &impl System, s: &[u8], card: Card) {
     let samples = samples_of(long_at(s, 51));
     let opened = Session::open(card, byte_at(s, 56));
     match opened {
-        Opened::Ready(session) => {
+        Ok(session) => {
             let sums = run(s, session, samples, rounds);
             let _ = println!(rt; "{:08x}{:08x}", sums.speeds, sums.rest);
         }
-        Opened::Refused(refusal) => {
-            let _ = println!(rt; "refused {}", number_of(refusal));
+        Err(refusal) => {
+            let _ = println!(rt; "refused {}", refusal.number());
         }
     }
 }
@@ -126,11 +119,11 @@ fn main(rt: HostRuntime) {
     shell::read_input(&rt, &mut s);
     let found = card_in(&s, 3);
     match found {
-        Found::Read(card) => {
+        Ok(card) => {
             ride(&rt, &s, card);
         }
-        Found::Refused(refusal) => {
-            let _ = println!(rt; "refused {}", number_of(refusal));
+        Err(refusal) => {
+            let _ = println!(rt; "refused {}", refusal.number());
         }
     }
 }

@@ -13,7 +13,7 @@ ghost use Rattle.receive.specs.Size.{next_size, no_size, size_in};
 
 use printed::{Columns, Form, print_heading};
 use printed_pieces::{Printed, print_end, print_piece, print_start};
-use receiver::{Receiver, Started, Status};
+use receiver::{Receiver, Status};
 use ride_shell::{CARD_ROOM, card_under, word_behind_card};
 use shell::{Failure, System, failed, room, say};
 use text::hex_digit;
@@ -122,8 +122,8 @@ fn print(rt: &impl System) -> Result<(), Failure> {
     let start = &text[..begun.length];
     say(rt, start.strip_prefix(heading).unwrap_or_default())?;
     match begun.started {
-        Started::Ready(receiver) => receive(rt, receiver, size, &mut text),
-        Started::Refused(_) => Ok(()),
+        Ok(receiver) => receive(rt, receiver, size, &mut text),
+        Err(_) => Ok(()),
     }
 }
 

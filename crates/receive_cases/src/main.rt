@@ -13,7 +13,7 @@ use case_lines::{behind, byte_said, unhex};
 use leaf::byte_at;
 use printed::{Columns, Form, print_heading};
 use printed_pieces::{Printed, print_end, print_piece, print_start};
-use receiver::{Receiver, Started, Status};
+use receiver::{Receiver, Status};
 use shell::System;
 use text::{put, put_ended, put_labelled, put_text};
 
@@ -200,8 +200,8 @@ fn start(rt: &impl System, way: Way, card: &[u8], h: usize, word: &[u8]) {
     let _ = shell::say(rt, text[..begun.length].get(h..).unwrap_or_default());
     let started = begun.started;
     match started {
-        Started::Ready(receiver) => go(rt, way, receiver, word),
-        Started::Refused(_) => (),
+        Ok(receiver) => go(rt, way, receiver, word),
+        Err(_) => (),
     }
 }
 

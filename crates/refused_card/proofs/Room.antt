@@ -6,14 +6,15 @@ use mathlib.Core.List.{List, []}
 use lib.Dec.{ltb, eqb}
 use lib.ListN.{length, length-append}
 use Rattle.leaf.specs.Bytes.{byte, word}
-use Rattle.leaf.specs.declared.Refusal.{Refusal}
-use Rattle.leaf.specs.declared.Refusal.TheVariants.{Number, At}
+use Rattle.std.specs.Prelude.{Option, Some, None}
+use Rattle.leaf.specs.Answers.{number_of, place_of}
+use Rattle.leaf.specs.declared.refusal.Refusal.{Refusal}
 use Rattle.card.specs.Card.{length_of}
 use Rattle.text.specs.Decimal.{counted}
 use Rattle.text.specs.Words.{ascii}
 use Rattle.text.proofs.Lengths.{decimal-length, word_length, pick-length}
 use Rattle.refused_card.specs.Names.{row_name, row_setting, behind_rows, setting_name}
-use Rattle.refused_card.specs.Refused.{reason_text, bytes_due, bytes_found, version_found, length_found, found_text, is_text, hint_text, refused_text, low_end, high_end, value_at, is_above, is_below, missed_text, is_speed, due_text, range_text, fault_text, why_text}
+use Rattle.refused_card.specs.Refused.{reason_text, bytes_due, bytes_found, version_found, length_found, found_text, is_text, hint_text, refused_text, low_end, high_end, value_at, is_above, is_below, missed_text, is_speed, due_text, range_text, fault_text, numbered_text, why_text}
 
 pub row_name-length : (k : ℕ) → length (row_name k) ≤ 104
 row_name-length k = word_length (ascii "conditional clear|stop announcement|preannouncement|caution|before-stop|unprotected crossing|limit|start") k
@@ -75,7 +76,10 @@ unfolding fault_text
 fault_length area number place =
     simp length-append (omega (arith, decimal-length number, decimal-length place, setting_name-length place, range_length area place))
 
+pub numbered-length : (area : List ℕ) (highest number : ℕ) (place : Option ℕ) → length (numbered_text area highest number place) ≤ 400
+numbered-length area highest number None = refused_length area highest number
+numbered-length area highest number (Some place) = omega (arith, fault_length area number place)
+
 pub why_length : (area : List ℕ) (highest : ℕ) (why : Refusal) → length (why_text area highest why) ≤ 400
 unfolding why_text
-why_length area highest (Number number) = refused_length area highest number
-why_length area highest (At number place) = omega (arith, fault_length area number place)
+why_length area highest why = numbered-length area highest (number_of why) (place_of why)

@@ -1,10 +1,10 @@
 -- Why the card in an area of bytes is refused, in words: what was found, and what should be there.
-use Rattle.std.specs.Prelude.{ℕ, ◌-◌, ◌%◌, Bool, true, not, ◌&&◌, ◌||◌, List, [], ◌∷◌, ◌++◌, ltb, eqb, length}
+use Rattle.std.specs.Prelude.{ℕ, ◌-◌, ◌%◌, Bool, true, not, ◌&&◌, ◌||◌, List, [], ◌∷◌, ◌++◌, Option, Some, None, ltb, eqb, length}
 use Rattle.leaf.specs.Choosing.{pick}
 use Rattle.leaf.specs.Numbers.{within}
 use Rattle.leaf.specs.Bytes.{byte, word}
-use Rattle.leaf.specs.declared.Refusal.{Refusal}
-use Rattle.leaf.specs.declared.Refusal.TheVariants.{Number, At}
+use Rattle.leaf.specs.Answers.{number_of, place_of}
+use Rattle.leaf.specs.declared.refusal.Refusal.{Refusal}
 use Rattle.card.specs.Card.{length_of}
 use Rattle.text.specs.Decimal.{counted, decimal}
 use Rattle.text.specs.Words.{ascii, word_of, labelled, refused_by, refused_at_place}
@@ -120,7 +120,11 @@ fault_text area number place = refused_at_place number place ++ ascii ": " ++ se
 
 -- ---- the whole text
 
+-- of a number, and of a place where there is one
+abbrev pub numbered_text : List ℕ → ℕ → ℕ → Option ℕ → List ℕ
+numbered_text area highest number None = refused_text area highest number
+numbered_text area highest number (Some place) = fault_text area number place
+
 -- why a reader that knows the versions up to `highest` refuses the card in an area
 unfoldable pub why_text : List ℕ → ℕ → Refusal → List ℕ
-why_text area highest (Number number) = refused_text area highest number
-why_text area highest (At number place) = fault_text area number place
+why_text area highest why = numbered_text area highest (number_of why) (place_of why)

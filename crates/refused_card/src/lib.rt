@@ -11,11 +11,11 @@ ghost use Rattle.text.specs.Typing.{typed};
 ghost use Rattle.text.specs.Words.{ascii, word_of};
 ghost use Rattle.refused_card.specs.Names.{row_name, row_setting, behind_rows, setting_name};
 ghost use Rattle.refused_card.specs.Refused.{reason_text, bytes_due, bytes_found, version_found, length_found, found_text, is_character, is_text, hint_text, refused_text};
-ghost use Rattle.refused_card.specs.Refused.{low_end, row_high_end, tail_high_end, high_end, value_at, is_final, is_above, is_below, missed_text, is_speed, due_text, range_text, fault_text, why_text};
+ghost use Rattle.refused_card.specs.Refused.{low_end, row_high_end, tail_high_end, high_end, value_at, is_final, is_above, is_below, missed_text, is_speed, due_text, range_text, fault_text, why_text, numbered_text};
 
 use card::Settings;
 use leaf::{Refusal, byte_at, word_at};
-use text::{counted, put_labelled, put_refusal, put_text};
+use text::{counted, put_labelled, put_numbered, put_text};
 
 // ---- names
 
@@ -216,7 +216,7 @@ fn hint(area: &[u8]) -> &'static [u8]
 fn put_refused(out: &mut [u8], at: usize, area: &[u8], highest: u8, number: u8) -> usize
     ensures { (out.new, result) ≡ typed (refused_text area.now highest number) (out.old, at) }
 {
-    let at = put_refusal(out, at, Refusal::Number(number));
+    let at = put_numbered(out, at, number, None);
     let at = put_text(out, at, b": ");
     let at = put_text(out, at, reason(number));
     let at = put_found(out, at, area, highest, number);
@@ -364,7 +364,7 @@ fn put_range(out: &mut [u8], at: usize, area: &[u8], place: u32) -> usize
 fn put_fault(out: &mut [u8], at: usize, area: &[u8], number: u8, place: u8) -> usize
     ensures { (out.new, result) ≡ typed (fault_text area.now number place) (out.old, at) }
 {
-    let at = put_refusal(out, at, Refusal::At(number, place));
+    let at = put_numbered(out, at, number, Some(place));
     let at = put_text(out, at, b": ");
     let at = put_setting_name(out, at, u32::from(place));
     let at = put_range(out, at, area, u32::from(place));
@@ -373,13 +373,27 @@ fn put_fault(out: &mut [u8], at: usize, area: &[u8], number: u8, place: u8) -> u
 
 // ---- the whole text
 
+// What is said of a refusal by its number, whatever that is, and by a place where one stands beside it.
+pub fn put_numbered_why(
+    out: &mut [u8],
+    at: usize,
+    area: &[u8],
+    highest: u8,
+    number: u8,
+    place: Option<u8>,
+) -> usize
+    ensures { (out.new, result) ≡ typed (numbered_text area.now highest number place) (out.old, at) }
+{
+    match place {
+        None => put_refused(out, at, area, highest, number),
+        Some(place) => put_fault(out, at, area, number, place),
+    }
+}
+
 // Why a reader that knows the versions up to `highest` refuses the card in the area.
 #[tactic(auto, unfolding(crate::specs::Refused::why_text))]
 pub fn put_why(out: &mut [u8], at: usize, area: &[u8], highest: u8, why: Refusal) -> usize
     ensures { (out.new, result) ≡ typed (why_text area.now highest why) (out.old, at) }
 {
-    match why {
-        Refusal::Number(number) => put_refused(out, at, area, highest, number),
-        Refusal::At(number, place) => put_fault(out, at, area, number, place),
-    }
+    put_numbered_why(out, at, area, highest, why.number(), why.place())
 }

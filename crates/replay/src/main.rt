@@ -12,7 +12,7 @@
 
 use printed_replay::{print_heading, print_quota, print_start, quota_in};
 use ride_shell::{CARD_ROOM, card_under, recording_room};
-use session::{Opened, Session};
+use session::Session;
 use shell::{Failure, System, argument, failed, say};
 
 const USAGE: &[u8] = b"usage: replay CARD QUOTA.. < RECORDING\n";
@@ -82,8 +82,8 @@ fn print(rt: &impl System) -> Result<(), Failure> {
     let start = &text[..begun.length];
     say(rt, start.strip_prefix(heading).unwrap_or_default())?;
     match begun.opened {
-        Opened::Ready(session) => say_quotas(rt, recording, session, arguments),
-        Opened::Refused(_) => Ok(()),
+        Ok(session) => say_quotas(rt, recording, session, arguments),
+        Err(_) => Ok(()),
     }
 }
 

@@ -12,16 +12,16 @@
 // out of its ranges or for another train type, and calls behind a refused one.
 #![tactic(auto)]
 
-use card::{Found, card_in};
+use card::card_in;
 use case_lines::{behind, byte_said, put_answer, unhex};
-use leaf::byte_at;
+use leaf::{Refusal, byte_at};
 use printed::{HIGHEST, put_refused};
 use printed_replay::quota_in;
 use rides::recording::samples;
-use rides::replay::{End, Last, Replayed, replay};
-use rides::ride::number_of;
-use session::{Opened, Session};
+use rides::replay::{End, Replayed, replay};
+use session::Session;
 use shell::System;
+use step::Answer;
 use text::{put_ended, put_labelled, put_text};
 
 // ---- a line's words
@@ -47,10 +47,10 @@ fn number_at(text: &[u8], from: usize) -> u64 {
 
 // ---- a replay's line
 
-fn put_last(out: &mut [u8], at: usize, last: Last) -> usize {
+fn put_last(out: &mut [u8], at: usize, last: Option<Answer>) -> usize {
     match last {
-        Last::Answered(a) => put_answer(out, at, a, b' '),
-        Last::None => put_text(out, at, b"none "),
+        Some(a) => put_answer(out, at, a, b' '),
+        None => put_text(out, at, b"none "),
     }
 }
 
@@ -66,7 +66,7 @@ fn put_end(out: &mut [u8], at: usize, end: End) -> usize {
     }
 }
 
-fn say_line(rt: &impl System, ran: u16, last: Last, end: End) {
+fn say_line(rt: &impl System, ran: u16, last: Option<Answer>, end: End) {
     let mut line = [0u8; 4096];
     let at = put_ended(&mut line, 0, u32::from(ran), b' ');
     let at = put_last(&mut line, at, last);
@@ -166,12 +166,9 @@ fn say_refused(rt: &impl System, number: u8) {
     let _ = shell::say(rt, &line[..n.min(line.len())]);
 }
 
-fn opened_on(card: &[u8], train: u8) -> Opened {
-    let found = card_in(card, HIGHEST);
-    match found {
-        Found::Read(read) => Session::open(read, train),
-        Found::Refused(why) => Opened::Refused(why),
-    }
+fn opened_on(card: &[u8], train: u8) -> Result<Session, Refusal> {
+    let read = card_in(card, HIGHEST)?;
+    Session::open(read, train)
 }
 
 // The card from this place of the line on, and the recording behind it.
@@ -181,8 +178,8 @@ fn start_at(rt: &impl System, way: Way, train: u8, line: &[u8], from: usize) {
     let n = card.length;
     let opened = opened_on(&space[..n], train);
     match opened {
-        Opened::Ready(session) => go_at(rt, way, session, line, behind(line, from, b' ')),
-        Opened::Refused(why) => say_refused(rt, number_of(why)),
+        Ok(session) => go_at(rt, way, session, line, behind(line, from, b' ')),
+        Err(why) => say_refused(rt, why.number()),
     }
 }
 

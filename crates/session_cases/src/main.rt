@@ -9,10 +9,10 @@
 
 mod pairs;
 
-use card::{Found, Reading, card_in};
+use card::card_in;
 use case_lines::put_answer;
 use leaf::Refusal;
-use session::{Opened, Outcome, Sample, Session};
+use session::{Sample, Session};
 use shell::{System, say};
 use step::Answer;
 use text::{put, put_refusal};
@@ -42,10 +42,10 @@ fn answer(rt: &impl System, a: Answer) {
     let _ = say(rt, &line[..n.min(line.len())]);
 }
 
-fn outcome(rt: &impl System, o: Outcome) {
+fn outcome(rt: &impl System, o: Result<Answer, Refusal>) {
     match o {
-        Outcome::Answered(a) => answer(rt, a),
-        Outcome::Refused(why) => refusal(rt, why),
+        Ok(a) => answer(rt, a),
+        Err(why) => refusal(rt, why),
     }
 }
 
@@ -234,10 +234,10 @@ fn zone(rt: &impl System, session: Session) {
 fn read_under_1(rt: &impl System, card: [u8; 44]) {
     let reading = card::read(&card, 1);
     match reading {
-        Reading::Read(_) => {
+        Ok(_) => {
             let _ = say(rt, b"read\n");
         }
-        Reading::Refused(why) => refusal(rt, why),
+        Err(why) => refusal(rt, why),
     }
 }
 
@@ -269,24 +269,21 @@ fn standing(rt: &impl System, session: Session) {
 }
 
 // The session that card K opens.
-fn opened() -> Opened {
+fn opened() -> Result<Session, Refusal> {
     let area = card_k();
-    let found = card_in(&area, 2);
-    match found {
-        Found::Read(card) => Session::open(card, 8),
-        Found::Refused(why) => Opened::Refused(why),
-    }
+    let card = card_in(&area, 2)?;
+    Session::open(card, 8)
 }
 
 fn main(rt: HostRuntime) {
     let start = opened();
     match start {
-        Opened::Ready(session) => {
+        Ok(session) => {
             rides(&rt, session);
             standing(&rt, session);
             pairs::cases(&rt, session);
         }
-        Opened::Refused(why) => refusal(&rt, why),
+        Err(why) => refusal(&rt, why),
     }
     highest_1(&rt);
 }

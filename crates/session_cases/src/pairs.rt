@@ -1,7 +1,7 @@
 // Document 02 g), "Limit beacons in pairs": openings beside every version, and sessions with pairs, on both sides of their lines.
 use crate::{after, reads, refusal};
 use card::{Card, Pairs, Settings};
-use session::{Opened, Session};
+use session::Session;
 use shell::{System, say};
 use sides::pairs::{First, FirstKind, FourLimits, Paired};
 
@@ -42,10 +42,10 @@ fn with_slow_vmax(settings: Settings) -> Settings {
 fn opens(rt: &impl System, version: u8, settings: Settings, train: u8) {
     let opened = Session::open(Card { version, settings }, train);
     match opened {
-        Opened::Ready(_) => {
+        Ok(_) => {
             let _ = say(rt, b"opened\n");
         }
-        Opened::Refused(why) => refusal(rt, why),
+        Err(why) => refusal(rt, why),
     }
 }
 

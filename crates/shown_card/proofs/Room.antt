@@ -8,7 +8,7 @@ use lib.ListN.{length, take, drop, length-append, length-take}
 use Rattle.leaf.specs.Choosing.{pick}
 use Rattle.leaf.specs.Bytes.{byte, word}
 use Rattle.leaf.specs.Answers.{Answer, given, refused, refused_at}
-use Rattle.leaf.specs.declared.Refusal.TheVariants.{Number, At}
+use Rattle.std.specs.Prelude.{Some, None}
 use Rattle.card.specs.declared.Row.{Row}
 use Rattle.card.specs.declared.Pairs.{Pairs}
 use Rattle.card.specs.declared.Settings.{Settings}
@@ -17,7 +17,7 @@ use Rattle.card.specs.Reading.{read_card}
 use Rattle.text.specs.Decimal.{MOST, counted, decimal}
 use Rattle.text.specs.Words.{ascii}
 use Rattle.text.proofs.Lengths.{decimal-length, tenths-length, hundredths-length, hex_length, word_length, pick-length}
-use Rattle.refused_card.proofs.Room.{row_name-length, why_length}
+use Rattle.refused_card.proofs.Room.{row_name-length, numbered-length}
 use Rattle.shown_card.specs.Shown.{HIGHEST, fall_text, row_text, rows_text, function_names, function_line, reminder_line, functions_text, head_text, pair_names, pair_text, all_pairs_text, pairs_text, settings_text}
 use Rattle.shown_card.specs.Shown.{hex_bytes, hex_line, hex_lines, many_text, more_text, behind_text, card_text, shown_card}
 
@@ -140,8 +140,8 @@ card_length : (area : List ℕ) (answer : Answer Settings) → length (card_text
 unfolding card_text
 card_length area (given s) =
     simp length-append (omega (arith, settings-length (byte area 2) s, behind_length area (word area 0)))
-card_length area (refused number) = omega (arith, why_length area HIGHEST (Number number))
-card_length area (refused_at number place) = omega (arith, why_length area HIGHEST (At number place))
+card_length area (refused number) = omega (arith, numbered-length area HIGHEST number None)
+card_length area (refused_at number place) = omega (arith, numbered-length area HIGHEST number (Some place))
 
 pub shown_length : (area : List ℕ) → length (shown_card area) ≤ 4096
 unfolding shown_card

@@ -1,9 +1,8 @@
 -- What `show_card` prints of an area of bytes, as one text: the card's settings by name and with their units, or why it is refused.
-use Rattle.std.specs.Prelude.{ℕ, ◌+◌, ◌-◌, Bool, false, List, [], ◌∷◌, ◌++◌, leb, ltb, eqb, length, take, drop}
+use Rattle.std.specs.Prelude.{ℕ, ◌+◌, ◌-◌, Bool, false, List, [], ◌∷◌, ◌++◌, Some, None, leb, ltb, eqb, length, take, drop}
 use Rattle.leaf.specs.Choosing.{pick}
 use Rattle.leaf.specs.Bytes.{byte, word}
 use Rattle.leaf.specs.Answers.{Answer, given, refused, refused_at}
-use Rattle.leaf.specs.declared.Refusal.TheVariants.{Number, At}
 use Rattle.card.specs.declared.Row.{Row}
 use Rattle.card.specs.declared.Pairs.{Pairs}
 use Rattle.card.specs.declared.Settings.{Settings}
@@ -13,7 +12,7 @@ use Rattle.text.specs.Decimal.{MOST, counted, blank, decimal, tenths, hundredths
 use Rattle.text.specs.Hex.{hex_of}
 use Rattle.text.specs.Words.{ascii, word_of, labelled}
 use Rattle.refused_card.specs.Names.{row_name}
-use Rattle.refused_card.specs.Refused.{why_text}
+use Rattle.refused_card.specs.Refused.{numbered_text}
 
 -- the highest version that the program knows: 02 g's
 abbrev pub HIGHEST : ℕ
@@ -113,8 +112,8 @@ behind_text area whole =
 -- of the reader's answer: the settings and what lies behind the record, or why the card is refused
 unfoldable pub card_text : List ℕ → Answer Settings → List ℕ
 card_text area (given s) = settings_text (byte area 2) s ++ behind_text area (word area 0)
-card_text area (refused number) = why_text area HIGHEST (Number number)
-card_text area (refused_at number place) = why_text area HIGHEST (At number place)
+card_text area (refused number) = numbered_text area HIGHEST number None
+card_text area (refused_at number place) = numbered_text area HIGHEST number (Some place)
 
 unfoldable pub shown_card : List ℕ → List ℕ
 shown_card area = card_text area (read_card area HIGHEST)

@@ -14,7 +14,7 @@ ghost use Rattle.text.specs.Typing.{typed, Held};
 ghost use Rattle.shown_card.specs.Shown.{fall_text, row_text, rows_text, function_line, reminder_line, function_names, functions_text, head_text, pair_names, pair_text, all_pairs_text, pairs_text, settings_text};
 ghost use Rattle.shown_card.specs.Shown.{hex_bytes, hex_line, hex_lines, many_text, more_text, behind_text, card_text, shown_card};
 
-use card::{Pairs, Reading, Row, Settings, functions_of};
+use card::{Pairs, Row, Settings, functions_of};
 use leaf::{byte_at, word_at};
 use refused_card::{put_row_name, put_why};
 use text::{
@@ -303,7 +303,7 @@ pub fn print_card(area: &[u8], out: &mut [u8]) -> usize
 {
     let reading = card::read(area, HIGHEST);
     match reading {
-        Reading::Read(s) => put_read(area, s, out),
-        Reading::Refused(why) => put_why(out, 0, area, HIGHEST, why),
+        Ok(s) => put_read(area, s, out),
+        Err(why) => put_why(out, 0, area, HIGHEST, why),
     }
 }

@@ -1,9 +1,9 @@
 -- What the text of a tone is where its sheet is refused; std's test of a finite number; a line a byte at a time; the first row that shares a
 -- tone.
-use Rattle.std.specs.Prelude.{ℕ, zero, suc, ◌+◌, ◌<◌, ◌≡◌, refl, Bool, true, false, not, ◌||◌, cond, List, [], ◌∷◌, ltb, count_by}
+use Rattle.std.specs.Prelude.{ℕ, zero, suc, Option, Some, None, ◌+◌, ◌<◌, ◌≡◌, refl, Bool, true, false, not, ◌||◌, cond, List, [], ◌∷◌, ltb, count_by}
 use Rattle.std.specs.Float.{float_is_finite}
 use Rattle.std.specs.List.{list_all}
-use Rattle.std.proofs.Common.{arith, add-one}
+use Rattle.std.proofs.Common.{arith, add-one, sym, ◌∙◌}
 use Rattle.std.proofs.lemmas.List.Sums.{sum_by-cons}
 use native.Mathlib.Nat.{eq-or-lt_of_le, le_of_suc-le-suc}
 use mathlib.Core.Logic.{inl, inr}
@@ -12,18 +12,27 @@ use lib.Ieee.{Float, nan, inf, fin}
 use lib.Ieee.Scale.{finite}
 use Rattle.leaf.specs.Choosing.{pick}
 use Rattle.leaf.specs.Checks.{or_fault}
-use Rattle.leaf.specs.Answers.{refusal_of}
-use Rattle.leaf.specs.declared.Refusal.{Refusal}
-use Rattle.leaf.specs.declared.Refusal.TheVariants.{Number, At}
+use Rattle.leaf.specs.Answers.{number_of, place_of, refusal_of}
+use Rattle.leaf.specs.declared.refusal.Refusal.{Refusal}
+use Rattle.leaf.proofs.ByNumber.{by_place}
 use Rattle.text.specs.Hex.{hex_value}
 use Rattle.tone.specs.Tones.{share}
 use Rattle.tone.specs.Facts.{row_in}
-use Rattle.shown_tones.specs.Shown.{sheet_text, answer_text, is_blank, bytes_in, only_digits, shared_by}
+use Rattle.shown_tones.specs.Shown.{bad_text, fault_text, sheet_text, answer_text, is_blank, bytes_in, only_digits, shared_by}
+
+-- a refusal's text by its number and place
+abbrev pub refused_text : List ℕ → ℕ → Option ℕ → List ℕ
+refused_text area number None = bad_text number
+refused_text area number (Some place) = fault_text area number place
+
+pub sheet_refused : (area : List ℕ) (why : Refusal) → sheet_text area (refusal_of why) ≡ refused_text area (number_of why) (place_of why)
+unfolding sheet_text
+sheet_refused area why = by_place (sheet_text area) (refused_text area) (λ number. refl) (λ number place. refl) why
 
 pub answer_refused : (area : List ℕ) (bits : ℕ) (why : Refusal) → answer_text area bits (refusal_of why) ≡ sheet_text area (refusal_of why)
 unfolding answer_text sheet_text
-answer_refused area bits (Number number) = refl
-answer_refused area bits (At number place) = refl
+answer_refused area bits why =
+    by_place (answer_text area bits) (refused_text area) (λ number. refl) (λ number place. refl) why ∙ sym (sheet_refused area why)
 
 -- std's test of a finite number is Ieee's
 pub finite_is : (x : Float) → float_is_finite x ≡ finite x

@@ -20,8 +20,8 @@ ghost use Rattle.shown_tones.specs.Shown.{row_kind, row_name, is_ordered, ends_b
 ghost use Rattle.shown_tones.specs.Shown.{is_blank, bytes_in, only_digits, is_tone, bits_of, reading_text, given_text, tone_text, other_text, shown_tone};
 
 use leaf::{QUIET_CODE, Refusal, byte_at, long_at, word_at};
-use text::{counted, hex_digit, put_float, put_labelled, put_pattern, put_refusal, put_text};
-use tone::{Fault, Reading, ToneAnswer, ToneRow, float_of};
+use text::{counted, hex_digit, put_float, put_labelled, put_numbered, put_pattern, put_text};
+use tone::{Reading, ToneRow, float_of};
 
 // ---- a sheet's refusal
 
@@ -209,7 +209,7 @@ fn put_place(out: &mut [u8], at: usize, area: &[u8], place: u8) -> usize
 fn put_fault(out: &mut [u8], at: usize, area: &[u8], number: u8, place: u8) -> usize
     ensures { (out.new, result) ≡ typed (fault_text area.now number place) (out.old, at) }
 {
-    let at = put_refusal(out, at, Refusal::At(number, place));
+    let at = put_numbered(out, at, number, Some(place));
     let at = put_text(out, at, b": ");
     let at = put_place(out, at, area, place);
     put_text(out, at, b"\n")
@@ -218,7 +218,7 @@ fn put_fault(out: &mut [u8], at: usize, area: &[u8], number: u8, place: u8) -> u
 fn put_bad(out: &mut [u8], at: usize, number: u8) -> usize
     ensures { (out.new, result) ≡ typed (bad_text number) (out.old, at) }
 {
-    let at = put_refusal(out, at, Refusal::Number(number));
+    let at = put_numbered(out, at, number, None);
     put_text(out, at, b": tone sheet bad\n")
 }
 
@@ -226,9 +226,9 @@ fn put_bad(out: &mut [u8], at: usize, number: u8) -> usize
 fn put_why(out: &mut [u8], at: usize, area: &[u8], why: Refusal) -> usize
     ensures { (out.new, result) ≡ typed (sheet_text area.now (refusal_of why)) (out.old, at) }
 {
-    match why {
-        Refusal::Number(number) => put_bad(out, at, number),
-        Refusal::At(number, place) => put_fault(out, at, area, number, place),
+    match why.place() {
+        None => put_bad(out, at, why.number()),
+        Some(place) => put_fault(out, at, area, why.number(), place),
     }
 }
 
@@ -236,11 +236,9 @@ fn put_why(out: &mut [u8], at: usize, area: &[u8], why: Refusal) -> usize
 fn put_sheet(area: &[u8], out: &mut [u8]) -> usize
     ensures { (out.new, result) ≡ typed (shown_sheet area.now) (out.old, 0) }
 {
-    let answer = tone::read_sheet(area);
-    let fault = answer.fault;
-    match fault {
-        Fault::Sound => 0,
-        Fault::Bad(why) => put_why(out, 0, area, why),
+    match tone::read_sheet(area) {
+        Ok(_) => 0,
+        Err(why) => put_why(out, 0, area, why),
     }
 }
 
@@ -335,10 +333,9 @@ fn put_given(out: &mut [u8], at: usize, bits: u32, reading: Reading) -> usize
 fn put_tone(area: &[u8], bits: u32, out: &mut [u8], at: usize) -> usize
     ensures { (out.new, result) ≡ typed (tone_text area.now bits) (out.old, at) }
 {
-    let answer = tone::classify(area, float_of(bits));
-    match answer {
-        ToneAnswer::Reads(reading) => put_given(out, at, bits, reading),
-        ToneAnswer::Refused(why) => put_why(out, at, area, why),
+    match tone::classify(area, float_of(bits)) {
+        Ok(reading) => put_given(out, at, bits, reading),
+        Err(why) => put_why(out, at, area, why),
     }
 }
 

@@ -9,12 +9,11 @@
 // brake that came on any number of samples ago, a session that is handed in out of its ranges, and samples behind a refused one.
 #![tactic(auto)]
 
-use card::{Found, card_in};
+use card::card_in;
 use case_lines::{behind, byte_said, put_answer, unhex, word_said};
-use leaf::{byte_at, word_at};
+use leaf::{Refusal, byte_at, word_at};
 use printed::{HIGHEST, put_refused};
-use rides::ride::number_of;
-use session::{Opened, Reasoned, Sample, Session, Told};
+use session::{Reasoned, Sample, Session};
 use shell::System;
 use step::speed::reason_number;
 use text::put_ended;
@@ -30,10 +29,10 @@ fn put_reasoned(out: &mut [u8], reasoned: Reasoned) -> usize {
     put_ended(out, at, u32::from(why.since), b'\n')
 }
 
-fn put_told(out: &mut [u8], told: Told) -> usize {
+fn put_told(out: &mut [u8], told: Result<Reasoned, Refusal>) -> usize {
     match told {
-        Told::Reasoned(reasoned) => put_reasoned(out, reasoned),
-        Told::Refused(why) => put_refused(out, 0, number_of(why)),
+        Ok(reasoned) => put_reasoned(out, reasoned),
+        Err(why) => put_refused(out, 0, why.number()),
     }
 }
 
@@ -94,12 +93,9 @@ fn say_refused(rt: &impl System, number: u8) {
     let _ = shell::say(rt, &line[..n.min(line.len())]);
 }
 
-fn opened_on(card: &[u8], train: u8) -> Opened {
-    let found = card_in(card, HIGHEST);
-    match found {
-        Found::Read(read) => Session::open(read, train),
-        Found::Refused(why) => Opened::Refused(why),
-    }
+fn opened_on(card: &[u8], train: u8) -> Result<Session, Refusal> {
+    let read = card_in(card, HIGHEST)?;
+    Session::open(read, train)
 }
 
 // The card from this place of the line on, and the samples behind it.
@@ -109,13 +105,13 @@ fn start_at(rt: &impl System, train: u8, braked: Braked, line: &[u8], from: usiz
     let n = card.length;
     let opened = opened_on(&space[..n], train);
     match opened {
-        Opened::Ready(session) => go_at(
+        Ok(session) => go_at(
             rt,
             with_brake(session, braked),
             line,
             behind(line, from, b' '),
         ),
-        Opened::Refused(why) => say_refused(rt, number_of(why)),
+        Err(why) => say_refused(rt, why.number()),
     }
 }
 
