@@ -5,8 +5,9 @@ use mathlib.Core.Bool.{Bool, true, false, ◌&&◌}
 use mathlib.Core.Path.{◌≡◌, refl, sym, ap, ◌∙◌}
 use mathlib.Core.List.{List, [], ◌∷◌}
 use lib.ListN.{take}
+use Rattle.std.specs.Prelude.{Err}
+use Rattle.leaf.specs.Answers.{numbered_refusal}
 use Rattle.leaf.specs.Choosing.{pick}
-use Rattle.leaf.specs.declared.Refusal.TheVariants.{Number}
 use Rattle.card.specs.declared.Card.{Card}
 use Rattle.card.specs.declared.Settings.{Settings}
 use Rattle.card.specs.Card.{base_kind, reminds}
@@ -16,8 +17,7 @@ use Rattle.desk.specs.declared.state.Desk.{Desk}
 use Rattle.desk.specs.Clock.{same_mode, desk_older}
 use Rattle.session.specs.declared.Sample.{Sample}
 use Rattle.session.specs.declared.Session.{Session}
-use Rattle.session.specs.declared.Outcome.{Outcome}
-use Rattle.session.specs.declared.Outcome.TheVariants.{Refused}
+use Rattle.session.specs.Session.{Outcome}
 use Rattle.session.specs.Types.{type_speed}
 use Rattle.session.specs.Session.{fresh_session, with_card, card_inside, inside_of, refused_by, carried, ran_of, sample_of, in_bts}
 use Rattle.session.specs.Runs.{accepted, outcomes}
@@ -146,7 +146,7 @@ module _ (t : Card) where
           (ap (λ (l : List Outcome). (ran_of u x).outcome ∷ l) (alike_after u x xs both (all_stay entries u t x quiet silent) ih))
       cases false e k o ih =
           rw (refused_stays u x e, refused_stays (beside u) x (rw (refusal_alike u x both) e), refusal_alike u x both)
-          (ap (λ (l : List Outcome). Refused (Number (refused_by u x)) ∷ l) (ih u both quiet))
+          (ap (λ (l : List Outcome). Err (numbered_refusal (refused_by u x)) ∷ l) (ih u both quiet))
 
 -- from a fresh session on
 pub alike_fresh : (c t : Card) (train : ℕ) → card_inside c ≡ true → card_inside (later c t) ≡ true → (xs : List Sample)

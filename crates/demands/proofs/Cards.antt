@@ -17,7 +17,7 @@ use Rattle.card.proofs.Exactly.{card_settings}
 use Rattle.card.proofs.Accepted.{accepted_only}
 use Rattle.card.proofs.Same.{same_word, same_row, same_part}
 use Rattle.session.specs.declared.Sample.{Sample}
-use Rattle.session.specs.declared.Outcome.{Outcome}
+use Rattle.session.specs.Session.{Outcome}
 use Rattle.session.specs.Types.{type_allowed}
 use Rattle.session.specs.Session.{fresh_session, judge_card, opened_after, open_session, card_inside}
 use Rattle.laws.proofs.Ranges.{card_when}

@@ -15,11 +15,11 @@ use Rattle.card.specs.declared.Card.{Card}
 use Rattle.step.specs.declared.Answer.{Answer as Told}
 use Rattle.session.specs.declared.Sample.{Sample}
 use Rattle.session.specs.declared.Session.{Session}
-use Rattle.session.specs.declared.Sampled.{Sampled}
 use Rattle.session.specs.Types.{type_allowed}
 use Rattle.session.specs.Session.{fresh_session, open_session, inside_of, refused_by, ran_of, sample_of, outcome_of}
 use Rattle.session.specs.Runs.{accepted}
-use Rattle.session.proofs.Runs.{accepted_runs, refused_stays}
+use Rattle.session.proofs.Numbers.{refused_number}
+use Rattle.session.proofs.Runs.{accepted_runs, refused_stays, number_given}
 use Rattle.session.proofs.Paper.{sample_paper}
 use Rattle.rides.specs.Recording.{good_recording, train_of}
 use Rattle.rides.specs.Ride.{fresh_ride, told_of, turn_of, turn_shows}
@@ -226,15 +226,7 @@ is_nine : (s : Session) (x : Sample) → inside_of s ≡ true → (CodesMet x �
 is_nine s x inside none = (samples_exactly s x (refusal_by 9 s)).1 (demand.SampledAs.refused_9 (inside_only s inside) none)
 
 not_nine : (s : Session) (x : Sample) → CodesMet x → sample_of s x ≡ refusal_by 9 s → ⊥
-unfolding sample_of ran_of
-not_nine s x codes e = cases (eqb (refused_by s x) 0) e
-  where
-    cases : (t : Bool) → pick t (ran_of s x) (refusal_by (refused_by s x) s) ≡ refusal_by 9 s → ⊥
-    cases true q = let o = ap (λ (y : Sampled). y.outcome) q in let z : ◌≡◌ {A = ℕ} 0 1 = cc in omega arith
-    cases false q =
-        let o = ap (λ (y : Sampled). y.outcome) q in
-        let number : refused_by s x ≡ 9 = cc in
-        ((refusal_laws s x).refused_9.0 number).1 codes
+not_nine s x codes e = ((refusal_laws s x).refused_9.0 (sym (number_given s x 9 e).1)).1 codes
 
 part_one : (s : Session) (part : List ℕ) (a b : Status) → PartAs s part a → PartAs s part b → a ≡ b
 part_one s part a b (paper.PartAs.refused_9 all) (paper.PartAs.refused_9 also) = refl
@@ -333,7 +325,7 @@ goes s x e = (rw (accepted_runs s x e), rw (accepted_runs s x e), rw (accepted_r
 stops : (s : Session) (x : Sample) → accepted s x ≡ false
     → ((turn_of (fresh_ride s) x).ride.ended ≡ refused_by s x) × ((sample_of s x).session ≡ s) × (status_after (sample_of s x).outcome ≡ Refused (refused_by s x))
 unfolding turn_of told_of
-stops s x e = (rw (refused_stays s x e), rw (refused_stays s x e), rw (refused_stays s x e))
+stops s x e = (rw (refused_stays s x e, refused_number s x e), rw (refused_stays s x e), rw (refused_stays s x e, refused_number s x e))
 
 -- ---- of every line
 

@@ -7,6 +7,7 @@ use mathlib.Core.List.{List, [], ◌∷◌, ◌++◌}
 use lib.Dec.{leb, ltb, lit≤}
 use lib.ListN.{length, take, get_or-append}
 use borrow.Author.Tests.{leb-false, ltb-true}
+use Rattle.std.specs.Prelude.{Ok, Err}
 use Rattle.leaf.specs.Bytes.{byte}
 use Rattle.leaf.specs.Choosing.{pick}
 use Rattle.leaf.specs.Answers.{given, refused}
@@ -16,8 +17,7 @@ use Rattle.card.specs.Reading.{card_in}
 use Rattle.card.proofs.Silence.{silence, card_silence}
 use Rattle.card.proofs.Versions.{knows_1_refuses_2, knows_older_refuses_3, same_card}
 use Rattle.step.specs.declared.Answer.{Answer}
-use Rattle.session.specs.declared.Outcome.{Outcome}
-use Rattle.session.specs.declared.Outcome.TheVariants.{Answered, Refused}
+use Rattle.session.specs.Session.{Outcome}
 use Rattle.session.specs.declared.Sample.{Sample}
 use Rattle.session.specs.Types.{type_allowed}
 use Rattle.session.specs.Session.{fresh_session, open_session, card_inside}
@@ -170,8 +170,8 @@ hypotheses_met =
 
 -- a number of an answer
 abbrev number_of : (Answer → ℕ) → Outcome → ℕ
-number_of f (Answered a) = f a
-number_of f (Refused why) = 0
+number_of f (Ok a) = f a
+number_of f (Err why) = 0
 
 pub partings : Partings
 unfolding definitions

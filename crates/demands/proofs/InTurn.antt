@@ -8,28 +8,29 @@ use mathlib.Core.Bool.{Bool, true, false}
 use mathlib.Core.List.{List}
 use mathlib.Core.Logic.{◌⊎◌, inl, inr}
 use mathlib.Core.Path.{◌≡◌, refl, sym, ap, subst, ◌∙◌}
-use Rattle.leaf.specs.declared.Refusal.TheVariants.{Number}
+use Rattle.std.specs.Prelude.{None, Ok}
+use Rattle.leaf.specs.Answers.{number_of, numbered_refusal}
 use Rattle.step.specs.declared.Answer.{Answer as Told}
 use Rattle.session.specs.declared.Sample.{Sample}
 use Rattle.session.specs.declared.Session.{Session}
 use Rattle.session.specs.declared.Sampled.{Sampled}
-use Rattle.session.specs.declared.Outcome.TheVariants.{Answered, Refused}
 use Rattle.session.specs.Session.{refused_by, ran_of}
 use Rattle.session.specs.Runs.{accepted}
-use Rattle.session.proofs.Runs.{accepted_runs, refused_stays}
+use Rattle.session.proofs.Numbers.{refused_number, refused_range}
+use Rattle.session.proofs.Runs.{accepted_runs, refused_stays, number_given}
 use Rattle.rides.specs.Recording.{sample_at}
 use Rattle.rides.specs.Ride.{fresh_ride, told_of, turn_of, turn_at}
 use Rattle.rides.specs.Replay.{ran_from}
 use Rattle.rides.specs.declared.ride.Ride.{Ride}
 use Rattle.rides.specs.declared.ride.Shown.TheVariants as shown
 use Rattle.rides.specs.declared.ride.Turned.{Turned}
-use Rattle.rides.specs.declared.replay.Last.{Last}
-use Rattle.rides.specs.declared.replay.Last.TheVariants as last
+use Rattle.rides.specs.Replay.{Last}
 use Rattle.rides.specs.declared.replay.End.TheVariants as end
 use Rattle.rides.proofs.Replays.{At, none-at, next_at, so_far_is, ended_all}
 use Rattle.laws.specs.Ranges.{Inside}
 use Rattle.laws.proofs.Ranges.{session_ranges}
 use Rattle.laws.proofs.Inside.{inside_laws}
+use Rattle.laws.proofs.Refusals.{refusal_laws}
 use Rattle.demands.specs.Demand1.{SampledAs, refusal_by}
 use Rattle.demands.specs.Demand1 as paper
 use Rattle.demands.specs.Replay.{InTurn, standing}
@@ -38,7 +39,7 @@ use Rattle.demands.proofs.Answered.{samples_exactly}
 
 -- ---- a sample that is answered, or refused, as a turn of a ride
 
-turned_answered : (s : Session) (x : Sample) (u : Session) (a : Told) → SampledAs s x (record { session = u; outcome = Answered a })
+turned_answered : (s : Session) (x : Sample) (u : Session) (a : Told) → SampledAs s x (record { session = u; outcome = Ok a })
     → record { ride = fresh_ride u; shown = shown.Answered a } ≡ turn_of (fresh_ride s) x
 unfolding turn_of told_of
 turned_answered s x u a q = rw ((samples_exactly s x _).1 q)
@@ -46,19 +47,24 @@ turned_answered s x u a q = rw ((samples_exactly s x _).1 q)
 turned_refused : (s : Session) (x : Sample) (m : ℕ) → SampledAs s x (refusal_by m s)
     → record { ride = record { session = s; ended = m }; shown = shown.Refused m } ≡ turn_of (fresh_ride s) x
 unfolding turn_of told_of
-turned_refused s x m q = rw ((samples_exactly s x _).1 q)
+turned_refused s x m q =
+    let all = (samples_exactly s x _).1 q in
+    let given = number_given s x m all in
+    let own : number_of (numbered_refusal m) ≡ m = rw given.1 (refused_number s x given.0) in
+    rw (all, own)
 
 -- a sample's own numbers; of a session inside its ranges 8 is none of them
-numbers : (s : Session) (x : Sample) (a : Sampled) → SampledAs s x a → (m : ℕ) → a.outcome ≡ Refused (Number m) → (8 ≤ m) × (m ≤ 11) × (Inside s → 9 ≤ m)
-unfolding ran_of
-numbers s x a (paper.SampledAs.refused_8 out) m e = let n : ◌≡◌ {A = ℕ} 8 m = cc in (omega arith, omega arith, λ i. absurd (out i))
-numbers s x a (paper.SampledAs.refused_9 i c) m e = let n : ◌≡◌ {A = ℕ} 9 m = cc in (omega arith, omega arith, λ i. omega arith)
-numbers s x a (paper.SampledAs.refused_10 i c f) m e = let n : ◌≡◌ {A = ℕ} 10 m = cc in (omega arith, omega arith, λ i. omega arith)
-numbers s x a (paper.SampledAs.refused_11 i c f k) m e = let n : ◌≡◌ {A = ℕ} 11 m = cc in (omega arith, omega arith, λ i. omega arith)
-numbers s x a (paper.SampledAs.answered i c f k) m e = let z : ◌≡◌ {A = ℕ} 0 1 = cc in absurd (omega arith)
+numbers : (s : Session) (x : Sample) (m : ℕ) → SampledAs s x (refusal_by m s) → (8 ≤ m) × (m ≤ 11) × (Inside s → 9 ≤ m)
+numbers s x m q =
+    let given = number_given s x m ((samples_exactly s x _).1 q) in
+    let range = refused_range s x given.0 in
+    (omega (arith, range.0, given.1), omega (arith, range.1, given.1), λ i. nine i given.1 range.0)
+  where
+    nine : Inside s → m ≡ refused_by s x → 8 ≤ refused_by s x → 9 ≤ m
+    nine i e low = let other : refused_by s x ≡ 8 → ⊥ = λ e. (refusal_laws s x).refused_8.0 e i in omega arith
 
 pub own : (s : Session) (x : Sample) (m : ℕ) → SampledAs s x (refusal_by m s) → Inside s → (9 ≤ m) × (m ≤ 11)
-own s x m q inside = let n = numbers s x (refusal_by m s) q m refl in (n.2 inside, n.1)
+own s x m q inside = let n = numbers s x m q in (n.2 inside, n.1)
 
 -- ---- what a replay has run then
 
@@ -79,7 +85,7 @@ module _ (recording : List ℕ) (place : ℕ) (s : Session) where
   unfolding turn_at
   ran_stopped n k m u l h t q =
       let x = sample_at recording (place + k) in
-      let some = (numbers u x (refusal_by m u) q m refl).0 in
+      let some = (numbers u x m q).0 in
       let over : m ≡ 0 → ⊥ = λ z. omega arith in
       let turn : Turned = record { ride = record { session = u; ended = m }; shown = shown.Refused m } in
       let next = next_at (fresh_ride s) recording place k (fresh_ride u) l k (reached k u l t) turn (turned_refused u x m q) in
@@ -104,7 +110,7 @@ module _ (recording : List ℕ) (place : ℕ) (s : Session) where
 
   pub goes : (n : ℕ) → Goes n ⊎ Stops n
   unfolding ran_of
-  goes zero = inl (record { session = s; answer = last.None; in_turn = replay.InTurn.none })
+  goes zero = inl (record { session = s; answer = None; in_turn = replay.InTurn.none })
   goes (suc n) = next (goes n)
     where
       here : (a : Goes n) (t : Bool) → accepted a.session (sample_at recording (place + n)) ≡ t → Goes (suc n) ⊎ Stops (suc n)
@@ -160,4 +166,4 @@ pub elsewhere : (a b : List ℕ) (place : ℕ) (s : Session) (k : ℕ) (u : Sess
 elsewhere a b place s k u l same replay.InTurn.none = replay.InTurn.none
 elsewhere a b place s k u l same (replay.InTurn.one_more {k = i} {before = v} {behind = w} {l = before} {a = told} t q) =
     replay.InTurn.one_more (elsewhere a b place s i v before (λ j h. same j (omega arith)) t)
-    (subst (λ (x : Sample). SampledAs v x (record { session = w; outcome = Answered told })) (sym (same i (omega arith))) q)
+    (subst (λ (x : Sample). SampledAs v x (record { session = w; outcome = Ok told })) (sym (same i (omega arith))) q)

@@ -3,14 +3,13 @@ use Prim.Native.Nat.{ℕ}
 use native.Mathlib.Omega.{arith}
 use mathlib.Core.List.{List, [], ◌∷◌, map}
 use mathlib.Core.Path.{◌≡◌, refl, ap, sym, ◌∙◌}
-use Rattle.leaf.specs.Answers.{Answer, given, refused, refused_at}
-use Rattle.leaf.specs.declared.Refusal.TheVariants.{Number}
+use Rattle.std.specs.Prelude.{Ok, Err}
+use Rattle.leaf.specs.Answers.{Answer, given, refused, refused_at, numbered_refusal}
 use Rattle.step.specs.declared.Answer.{Answer as Told}
 use Rattle.session.specs.declared.Sample.{Sample}
 use Rattle.session.specs.declared.Session.{Session}
 use Rattle.session.specs.declared.Sampled.{Sampled}
-use Rattle.session.specs.declared.Outcome.{Outcome}
-use Rattle.session.specs.declared.Outcome.TheVariants.{Answered, Refused}
+use Rattle.session.specs.Session.{Outcome}
 use Rattle.session.specs.Session.{fresh_session, sample_of}
 use Rattle.demands.specs.Examples.{conv, shows, card_of_a}
 use Rattle.demands.specs.Demand1.{SampledAs}
@@ -38,33 +37,33 @@ unchanged f h (refused_at n place) = refl
 
 constant_verdicts : (os : List Outcome) → map verdict (map at8000 os) ≡ map verdict os
 constant_verdicts [] = refl
-constant_verdicts (Answered a ∷ rest) = rw (constant_verdicts rest)
-constant_verdicts (Refused why ∷ rest) = rw (constant_verdicts rest)
+constant_verdicts (Ok a ∷ rest) = rw (constant_verdicts rest)
+constant_verdicts (Err why ∷ rest) = rw (constant_verdicts rest)
 
 constant_speeds : (os : List Outcome) → All 8000 (map (λ a. a.speed) (answers_in (map at8000 os)))
 constant_speeds [] = tt
-constant_speeds (Answered a ∷ rest) = (refl, constant_speeds rest)
-constant_speeds (Refused why ∷ rest) = constant_speeds rest
+constant_speeds (Ok a ∷ rest) = (refl, constant_speeds rest)
+constant_speeds (Err why ∷ rest) = constant_speeds rest
 
 again_verdicts : (a : Told) (os : List Outcome) → map verdict (again a os) ≡ map verdict os
 again_verdicts a [] = refl
-again_verdicts a (Answered b ∷ rest) = rw (again_verdicts a rest)
-again_verdicts a (Refused why ∷ rest) = rw (again_verdicts a rest)
+again_verdicts a (Ok b ∷ rest) = rw (again_verdicts a rest)
+again_verdicts a (Err why ∷ rest) = rw (again_verdicts a rest)
 
 repeater_verdicts : (os : List Outcome) → map verdict (first_again os) ≡ map verdict os
 repeater_verdicts [] = refl
-repeater_verdicts (Answered a ∷ rest) = rw (again_verdicts a rest)
-repeater_verdicts (Refused why ∷ rest) = rw (repeater_verdicts rest)
+repeater_verdicts (Ok a ∷ rest) = rw (again_verdicts a rest)
+repeater_verdicts (Err why ∷ rest) = rw (repeater_verdicts rest)
 
 again_answers : (a : Told) (os : List Outcome) → All a (answers_in (again a os))
 again_answers a [] = tt
-again_answers a (Answered b ∷ rest) = (refl, again_answers a rest)
-again_answers a (Refused why ∷ rest) = again_answers a rest
+again_answers a (Ok b ∷ rest) = (refl, again_answers a rest)
+again_answers a (Err why ∷ rest) = again_answers a rest
 
 repeater_answers : (os : List Outcome) → Repeated (answers_in (first_again os))
 repeater_answers [] = tt
-repeater_answers (Answered a ∷ rest) = again_answers a rest
-repeater_answers (Refused why ∷ rest) = repeater_answers rest
+repeater_answers (Ok a ∷ rest) = again_answers a rest
+repeater_answers (Err why ∷ rest) = repeater_answers rest
 
 constant : OneSpeed eight_thousand
 constant s train = (8000, λ xs. changed (map at8000) (λ os. All 8000 (map (λ a. a.speed) (answers_in os))) constant_speeds (document01 s train xs))
@@ -97,11 +96,12 @@ accepts : (sample_of fresh standing).outcome ≡ shows 10000 0 0
 unfolding definitions
 accepts = refl
 
-refuses : (sample_of fresh beacon_13).outcome ≡ Refused (Number 9)
+refuses : (sample_of fresh beacon_13).outcome ≡ Err (numbered_refusal 9)
 unfolding definitions
 refuses = refl
 
 always_refused : (s : Session) → verdict (sample_of s beacon_13).outcome ≡ given tt → ⊥
+unfolding numbered_refusal
 always_refused s h = cases (sample_of s beacon_13) ((demand_1.samples s beacon_13 _).0 refl) h
   where
     cases : (r : Sampled) → SampledAs s beacon_13 r → verdict r.outcome ≡ given tt → ⊥

@@ -6,14 +6,15 @@ use mathlib.Core.List.{List, [], ◌∷◌, Memᴰ}
 use mathlib.Core.Path.{◌≡◌, refl, ap, subst}
 use lib.Dec.{eqb}
 use borrow.Author.Tests.{eqb-true, eq-eqb}
+use Rattle.std.specs.Prelude.{Ok, Err}
 use Rattle.leaf.specs.Choosing.{pick, and_split}
+use Rattle.leaf.specs.declared.refusal.Refusal.{Refusal}
 use Rattle.step.specs.declared.speed.Standing.{Standing}
 use Rattle.step.specs.Speed.{none, limits}
 use Rattle.step.specs.Reason.{reason_number, reason_of}
 use Rattle.session.specs.declared.Session.{Session}
 use Rattle.session.specs.declared.Reasoned.{Reasoned}
-use Rattle.session.specs.declared.Told.{Told as Asking}
-use Rattle.session.specs.declared.Told.TheVariants as asked
+use Rattle.session.specs.Why.{Told as Asking}
 use Rattle.session.specs.declared.Asked.{Asked}
 use Rattle.session.specs.Session.{fresh_session}
 use Rattle.session.specs.Why.{why_now, asked_of}
@@ -68,16 +69,16 @@ last_met t speed number age h =
     subst (λ (v : ℕ). Limits t.card.settings (top_of t) t.desk (reason_place last.reason) v last.age) found.1
     (member_limits t.card.settings (top_of t) t.desk last found.0 stands)
 
-never_reasoned : {why : _} {r : Reasoned} → asked.Refused why ≡ asked.Reasoned r → ⊥
+never_reasoned : {why : Refusal} {r : Reasoned} → ◌≡◌ {A = Asking} (Err why) (Ok r) → ⊥
 never_reasoned h = let z : ◌≡◌ {A = ℕ} 0 1 = cc in omega arith
 
-reasoned_is : {r q : Reasoned} → asked.Reasoned r ≡ asked.Reasoned q → r ≡ q
+reasoned_is : {r q : Reasoned} → ◌≡◌ {A = Asking} (Ok r) (Ok q) → r ≡ q
 reasoned_is h = cc
 
 last_passes : NamesStanding names_last
 last_passes s x r h = cases (asked_of s x) ((asked_exactly s x (asked_of s x)).0 refl) h
   where
-    cases : (a : Asked) → AskedAs s x a → last_named a.session a.told ≡ asked.Reasoned r
+    cases : (a : Asked) → AskedAs s x a → last_named a.session a.told ≡ Ok r
         → Limits a.session.card.settings (top_of a.session) a.session.desk (reason_place r.why.reason) r.answer.speed r.why.age
     cases _ (paper.AskedAs.refused_with n p) h = absurd (never_reasoned h)
     cases _ (paper.AskedAs.reasoned t a w p met) h =
@@ -87,8 +88,8 @@ last_passes s x r h = cases (asked_of s x) ((asked_exactly s x (asked_of s x)).0
 -- ---- card A with 100 km/h in limit and start rows, 50/10: 4, and it says 7
 
 number_told : Asking → ℕ
-number_told (asked.Reasoned r) = reason_number r.why.reason
-number_told (asked.Refused why) = 0
+number_told (Ok r) = reason_number r.why.reason
+number_told (Err why) = 0
 
 last_out : AsksExactly names_last → ⊥
 unfolding definitions number_told reason_of why_now asked_of

@@ -9,6 +9,7 @@ use lib.Dec.{eqb, leb, lit<}
 use lib.ListN.{length, get_or, take, drop, take-append-drop, length-append}
 use lib.Seq.{take-add, take_all, split_at}
 use borrow.Author.Tests.{eqb-true, leb-true, leb-false}
+use Rattle.std.specs.Prelude.{Ok, Err}
 use Rattle.leaf.specs.Answers.{Answer, given, refused, refused_at}
 use Rattle.leaf.specs.Bytes.{byte, word, long}
 use Rattle.card.specs.declared.Card.{Card}
@@ -16,8 +17,7 @@ use Rattle.step.specs.declared.Answer.{Answer as Told}
 use Rattle.session.specs.declared.Sample.{Sample}
 use Rattle.session.specs.declared.Session.{Session}
 use Rattle.session.specs.declared.Sampled.{Sampled}
-use Rattle.session.specs.declared.Outcome.{Outcome}
-use Rattle.session.specs.declared.Outcome.TheVariants as outcome
+use Rattle.session.specs.Session.{Outcome}
 use Rattle.session.specs.Session.{open_session, inside_of, refused_by, sample_of, outcome_of}
 use Rattle.session.specs.Runs.{accepted, after, outcomes, all_accepted}
 use Rattle.session.proofs.Runs as session
@@ -88,8 +88,8 @@ unfolding turn_of told_of
 turn_session s x = told (sample_of s x).outcome
   where
     told : (o : Outcome) → (told_of (sample_of s x).session o).ride.session ≡ (sample_of s x).session
-    told (outcome.Answered a) = refl
-    told (outcome.Refused why) = refl
+    told (Ok a) = refl
+    told (Err why) = refl
 
 -- an accepted sample goes on from the session after it; one that stops the ride leaves the session as it was
 turn_goes : (s : Session) (x : Sample) → accepted s x ≡ true → (turn_of (fresh_ride s) x).ride ≡ fresh_ride (sample_of s x).session

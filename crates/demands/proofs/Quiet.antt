@@ -7,6 +7,7 @@ use mathlib.Core.Logic.{◌⊎◌, inl, inr, ◌↔◌}
 use mathlib.Core.Path.{◌≡◌, refl, sym, ap, ◌∙◌}
 use lib.Dec.{leb, eqb}
 use borrow.Author.Tests.{le-leb, leb-true, leb-false, lt-leb, eqb-true, eqb-false}
+use Rattle.std.specs.Prelude.{Ok}
 use Rattle.leaf.specs.Choosing.{pick, and_split}
 use Rattle.leaf.specs.Numbers.{code_top, buttons_top, bit_of}
 use Rattle.tone.proofs.Readings.{code_quiet, code_permanent}
@@ -22,7 +23,6 @@ use Rattle.step.specs.Brake.{standing_cause}
 use Rattle.session.specs.declared.Sample.{Sample}
 use Rattle.session.specs.declared.Session.{Session}
 use Rattle.session.specs.declared.Sampled.{Sampled}
-use Rattle.session.specs.declared.Outcome.TheVariants.{Answered}
 use Rattle.session.specs.Session.{inside_of, in_bts, refused_by, carried, sampled_as, stepped, ran_of, sample_of}
 use Rattle.session.specs.Runs.{accepted}
 use Rattle.session.proofs.Runs.{refused_stays}
@@ -99,7 +99,7 @@ module _ (s : Session) (x : Sample) where
       when (inl e) = rw (conv_of x.mode e)
       when (inr p) = rw (p.0, p.1) (either (not (in_bts x.mode)))
 
-  alarm : (a : Told) → (sample_of s x).outcome ≡ Answered a → Alarm s x a
+  alarm : (a : Told) → (sample_of s x).outcome ≡ Ok a → Alarm s x a
   alarm a h =
       let t = told s x a h in
       let same = ap (λ (b : Told). bit_of b.lamps 2048) t.1 in
@@ -112,7 +112,7 @@ module _ (s : Session) (x : Sample) where
 
 -- ---- nothing else
 
-module _ (s : Session) (x : Sample) (a b : Told) (ea : (sample_of s (coded 12 x)).outcome ≡ Answered a) (eb : (sample_of s (coded 0 x)).outcome ≡ Answered b) where
+module _ (s : Session) (x : Sample) (a b : Told) (ea : (sample_of s (coded 12 x)).outcome ≡ Ok a) (eb : (sample_of s (coded 0 x)).outcome ≡ Ok b) where
   abbrev p : Accepted s (coded 12 x) × ((stepped s (carried s (coded 12 x))).answer ≡ a)
   p = told s (coded 12 x) a ea
 
@@ -167,7 +167,7 @@ cause_6 : (s : Session) (x : Sample) → refused_by (with_cause 6 s) x ≡ refus
 unfolding refused_by inside_of desk_inside standstill
 cause_6 s x = refl
 
-counts_changed : (s : Session) (x : Sample) (a : Told) → 1 ≤ x.beacon → x.beacon ≤ 11 → (sample_of (with_last 12 s) x).outcome ≡ Answered a
+counts_changed : (s : Session) (x : Sample) (a : Told) → 1 ≤ x.beacon → x.beacon ≤ 11 → (sample_of (with_last 12 s) x).outcome ≡ Ok a
     → sample_of (with_last 12 s) x ≡ sample_of (with_last 0 s) x
 unfolding ran_of
 counts_changed s x a low high h =

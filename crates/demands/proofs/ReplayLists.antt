@@ -7,13 +7,13 @@ use mathlib.Core.Bool.{Bool, true, false}
 use mathlib.Core.List.{List, [], ◌∷◌, ◌++◌, append-nil}
 use mathlib.Core.Path.{◌≡◌, refl, sym, ap, ◌∙◌}
 use lib.Dec.{eqb}
+use Rattle.std.specs.Prelude.{Some, None, Ok}
 use Rattle.leaf.specs.Choosing.{pick, and_split}
 use Rattle.leaf.specs.Answers.{Answer, given, refused, refused_at}
 use Rattle.step.specs.declared.Answer.{Answer as Told}
 use Rattle.session.specs.declared.Sample.{Sample}
 use Rattle.session.specs.declared.Session.{Session}
 use Rattle.session.specs.declared.Sampled.{Sampled}
-use Rattle.session.specs.declared.Outcome.TheVariants as outcome
 use Rattle.session.specs.Session.{refused_by, sample_of}
 use Rattle.session.specs.Runs.{accepted, after, all_accepted}
 use Rattle.session.proofs.Runs.{refused_stays}
@@ -24,8 +24,7 @@ use Rattle.rides.specs.declared.ride.Ride.{Ride}
 use Rattle.rides.specs.declared.ride.Shown.{Shown}
 use Rattle.rides.specs.declared.ride.Shown.TheVariants as shown
 use Rattle.rides.specs.declared.ride.Turned.{Turned}
-use Rattle.rides.specs.declared.replay.Last.{Last}
-use Rattle.rides.specs.declared.replay.Last.TheVariants as last
+use Rattle.rides.specs.Replay.{Last}
 use Rattle.rides.specs.declared.replay.End.TheVariants as end
 use Rattle.rides.proofs.Runs.{turned_accepted, turned_refused, recording_run, ended_run, shows_from, from_suc, ended_shows, ended_turn}
 use Rattle.rides.proofs.Replays.{Turning, turning, steps_suc}
@@ -48,7 +47,7 @@ accepted_snoc s (y ∷ xs) x h e =
     rw p.0 (accepted_snoc (sample_of s y).session xs x p.1 e)
 
 -- what is answered was accepted
-answered-accepted : (s : Session) (x : Sample) (a : Told) → (sample_of s x).outcome ≡ outcome.Answered a → accepted s x ≡ true
+answered-accepted : (s : Session) (x : Sample) (a : Told) → (sample_of s x).outcome ≡ Ok a → accepted s x ≡ true
 answered-accepted s x a e = cases (accepted s x) refl
   where
     cases : (t : Bool) → accepted s x ≡ t → accepted s x ≡ true
@@ -68,20 +67,20 @@ module _ (recording : List ℕ) (place : ℕ) (s : Session) where
     pub session : u ≡ after s (samples_from recording place k)
     pub answer : LastAs recording place s k l
 
-  next_listed : (j : ℕ) (b v : Session) (l : Last) (a : Told) → Listed j b l → sample_of b (sample_at recording (place + j)) ≡ record { session = v; outcome = outcome.Answered a }
-      → Listed (suc j) v (last.Answered a)
+  next_listed : (j : ℕ) (b v : Session) (l : Last) (a : Told) → Listed j b l → sample_of b (sample_at recording (place + j)) ≡ record { session = v; outcome = Ok a }
+      → Listed (suc j) v (Some a)
   next_listed j b v l a rest e =
       let xs = samples_from recording place j in
       let x = sample_at recording (place + j) in
       let here = rw rest.session at e in
-      let told : (sample_of (after s xs) x).outcome ≡ outcome.Answered a = ap (λ (y : Sampled). y.outcome) here in
+      let told : (sample_of (after s xs) x).outcome ≡ Ok a = ap (λ (y : Sampled). y.outcome) here in
       record {
         accepted = rw samples_suc (accepted_snoc s xs x rest.accepted (answered-accepted (after s xs) x a told));
         session = rw (samples_suc, after_snoc) (sym (ap (λ (y : Sampled). y.session) here));
         answer = replay.LastAs.answered told;
       }
 
-  none-listed : Listed 0 s last.None
+  none-listed : Listed 0 s None
   unfolding samples_from after all_accepted
   none-listed = record { accepted = refl; session = refl; answer = replay.LastAs.none }
 
@@ -137,7 +136,7 @@ last_append : (before : Last) (l : List (Answer Told)) (sh : Shown) → last_in 
 last_append before [] (shown.Answered a) = refl
 last_append before [] (shown.Refused n) = refl
 last_append before [] shown.Nothing = refl
-last_append before (given a ∷ l) sh = last_append (last.Answered a) l sh
+last_append before (given a ∷ l) sh = last_append (Some a) l sh
 last_append before (refused n ∷ l) sh = last_append before l sh
 last_append before (refused_at n at ∷ l) sh = last_append before l sh
 
@@ -162,7 +161,7 @@ module _ (s : Session) (recording : List ℕ) (place : ℕ) where
 
   pub record Summed (k : ℕ) : Type 0 where
     pub answers : answers_in (shown_up_to k) ≡ steps_from (fresh_ride s) recording place k
-    pub answer : last_in last.None (shown_up_to k) ≡ last_from (fresh_ride s) recording place k
+    pub answer : last_in None (shown_up_to k) ≡ last_from (fresh_ride s) recording place k
     pub ended : end_in place (shown_up_to k) ≡ end_at (ride_from (fresh_ride s) recording place k).ended (place + steps_from (fresh_ride s) recording place k)
 
   next_end : (k : ℕ) → Summed k → end_in place (shown_up_to (suc k)) ≡ end_at (ride_from (fresh_ride s) recording place (suc k)).ended (place + steps_from (fresh_ride s) recording place (suc k))

@@ -4,14 +4,15 @@ use native.Mathlib.Omega.{arith}
 use mathlib.Core.Bool.{Bool, true, false}
 use mathlib.Core.List.{List, [], ◌∷◌, map}
 use mathlib.Core.Path.{◌≡◌, refl, ap}
-use Rattle.leaf.specs.Answers.{Answer, given, refused}
+use Rattle.leaf.specs.Answers.{Answer, given, refused, refusal_of, numbered_refusal}
 use Rattle.card.specs.declared.Card.{Card}
 use Rattle.step.specs.declared.Answer.{Answer as Told}
 use Rattle.session.specs.declared.Sample.{Sample}
 use Rattle.session.specs.declared.Session.{Session}
 use Rattle.session.specs.Session.{fresh_session, open_session, ran_of, sample_of, outcome_of}
 use Rattle.session.specs.Runs.{accepted, outcomes}
-use Rattle.session.proofs.Runs.{accepted_runs, refused_stays}
+use Rattle.session.proofs.Numbers.{refused_paper}
+use Rattle.session.proofs.Runs.{accepted_runs, refused_stays, number_given}
 use Rattle.rides.specs.Recording.{good_recording, RecordingMet, samples_in, train_of, samples_of}
 use Rattle.rides.specs.Ride.{start_ride, fresh_ride, shown_by, until_refused, shown_from, whole_ride}
 use Rattle.rides.proofs.Recordings.{good_met, met_good}
@@ -39,13 +40,17 @@ shown_is s (x ∷ xs) = cases (accepted s x) refl (λ t. shown_is t xs)
         → ShownAs s (x ∷ xs) (until_refused (outcome_of (sample_of s x).outcome ∷ map outcome_of (outcomes (sample_of s x).session xs)))
     cases true e rest =
         rw (accepted_runs s x e) (paper.ShownAs.answered ((samples_exactly s x _).0 (accepted_runs s x e)) (rest (ran_of s x).session))
-    cases false e rest = rw (refused_stays s x e) (paper.ShownAs.ended ((samples_exactly s x _).0 (refused_stays s x e)))
+    cases false e rest = rw (refused_stays s x e, refused_paper s x {A = Told} e) (paper.ShownAs.ended ((samples_exactly s x _).0 (refused_stays s x e)))
 
 shown_only : (s : Session) (xs : List Sample) (l : List (Answer Told)) → ShownAs s xs l → shown s xs ≡ l
 unfolding outcomes until_refused
 shown_only s [] l paper.ShownAs.none = refl
 shown_only s (x ∷ xs) l (paper.ShownAs.answered {after = u} {a = a} {rest = r} it later) = rw ((samples_exactly s x _).1 it) (ap (λ (m : List (Answer Told)). given a ∷ m) (shown_only u xs r later))
-shown_only s (x ∷ xs) l (paper.ShownAs.ended it) = rw ((samples_exactly s x _).1 it)
+shown_only s (x ∷ xs) l (paper.ShownAs.ended {n = n} it) =
+    let all = (samples_exactly s x _).1 it in
+    let given = number_given s x n all in
+    let number : refusal_of {A = Told} (numbered_refusal n) ≡ refused n = rw given.1 (refused_paper s x {A = Told} given.0) in
+    rw (all, number)
 
 -- ---- the ride
 

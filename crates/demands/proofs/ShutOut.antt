@@ -20,7 +20,7 @@ use Rattle.step.specs.declared.Answer.{Answer as Told}
 use Rattle.session.specs.declared.Sample.{Sample}
 use Rattle.session.specs.declared.Session.{Session}
 use Rattle.session.specs.declared.Sampled.{Sampled}
-use Rattle.session.specs.declared.Outcome.{Outcome}
+use Rattle.session.specs.Session.{Outcome}
 use Rattle.session.specs.Session.{fresh_session, sample_of}
 use Rattle.rides.specs.Recording.{good_recording}
 use Rattle.rides.specs.Ride.{start_ride}

@@ -7,6 +7,7 @@ use mathlib.Core.Path.{◌≡◌, refl, ap, ◌∙◌}
 use mathlib.Core.List.{List, [], ◌∷◌, flatten}
 use lib.Dec.{eqb, ltb, lit<}
 use borrow.Author.Tests.{eqb-true, eqb-false, ltb-true, ltb-false}
+use Rattle.std.specs.Prelude.{Ok, Err}
 use Rattle.leaf.specs.Choosing.{pick}
 use Rattle.leaf.specs.Answers.{Answer, given, refused, refused_at}
 use Rattle.step_laws.proofs.Choosing.{pick_has}
@@ -16,8 +17,7 @@ use Rattle.card.specs.Reading.{card_in}
 use Rattle.card.proofs.Silence.{card_silence}
 use Rattle.session.specs.declared.Sample.{Sample}
 use Rattle.session.specs.declared.Session.{Session}
-use Rattle.session.specs.declared.Outcome.{Outcome}
-use Rattle.session.specs.declared.Outcome.TheVariants as outcome
+use Rattle.session.specs.Session.{Outcome}
 use Rattle.session.specs.Types.{type_allowed}
 use Rattle.session.specs.Session.{fresh_session, open_session, card_inside, ran_of, sample_of}
 use Rattle.session.specs.Runs.{accepted}
@@ -101,8 +101,8 @@ module _ (t : Card) where
     turn_alike = rw sampled_alike (told (sample_of u x).session (sample_of u x).outcome)
       where
         told : (v : Session) (o : Outcome) → told_of (beside t v) o ≡ beside_turned (told_of v o)
-        told v (outcome.Answered a) = refl
-        told v (outcome.Refused why) = refl
+        told v (Ok a) = refl
+        told v (Err why) = refl
 
   -- ---- one byte
 
@@ -321,8 +321,8 @@ module _ (r : Receiver) where
 
   told_carded : (u : Session) (o : Outcome) → u.card ≡ r.session.card → Carded (completed_by r (told_of u o))
   unfolding completed_by told_of refused_with
-  told_carded u (outcome.Answered a) e = e
-  told_carded u (outcome.Refused why) e = cases (eqb (number_of why) 0)
+  told_carded u (Ok a) e = e
+  told_carded u (Err why) e = cases (eqb (number_of why) 0)
     where
       cases : (none : Bool) → (pick none (counted_in (with_part no_part (with_session u r))) (with_status (Refused (number_of why)) r)).session.card ≡ r.session.card
       cases true = e

@@ -9,11 +9,12 @@ use mathlib.Core.Path.{◌≡◌, refl, sym, ap, ◌∙◌}
 use lib.Dec.{eqb}
 use lib.ListN.{length}
 use borrow.Author.Tests.{eqb-true, eqb-false, ne_eqb}
+use Rattle.std.specs.Prelude.{Ok, Err}
 use Rattle.leaf.specs.Choosing.{and_split}
 use Rattle.leaf.specs.Numbers.{bit_of}
 use Rattle.leaf.specs.Buttons.{rearm_button}
 use Rattle.leaf.specs.Answers.{given}
-use Rattle.leaf.specs.declared.Refusal.TheVariants.{Number}
+use Rattle.leaf.specs.declared.refusal.Refusal.{Refusal}
 use Rattle.card.specs.declared.Card.{Card}
 use Rattle.desk.specs.declared.state.Desk.{Desk}
 use Rattle.desk.specs.Brake.{stood_after, standstill}
@@ -23,11 +24,10 @@ use Rattle.step.specs.Brake.{standing_cause}
 use Rattle.session.specs.declared.Sample.{Sample}
 use Rattle.session.specs.declared.Session.{Session}
 use Rattle.session.specs.declared.Sampled.{Sampled}
-use Rattle.session.specs.declared.Outcome.TheVariants.{Answered, Refused}
-use Rattle.session.specs.Session.{open_session, refused_by, carried, stepped, ran_of, sample_of}
+use Rattle.session.specs.Session.{Outcome, open_session, refused_by, carried, stepped, ran_of, sample_of}
 use Rattle.session.specs.Runs.{accepted, after}
 use Rattle.session.proofs.Opening.{opening_fresh}
-use Rattle.session.proofs.Runs.{accepted_runs, refused_stays}
+use Rattle.session.proofs.Runs.{accepted_runs, refused_stays, number_given}
 use Rattle.step_laws.specs.Brake.{rearms, BrakeLaws}
 use Rattle.step_laws.proofs.Choosing.{not_so}
 use Rattle.step_laws.proofs.Brake.{brake_laws}
@@ -113,13 +113,10 @@ count card train s xs n h stood =
 
 -- ---- standstill
 
-pub answered-refused : {a : Told} {n : ℕ} → Answered a ≡ Refused (Number n) → ⊥
+pub answered-refused : {a : Told} {why : Refusal} → ◌≡◌ {A = Outcome} (Ok a) (Err why) → ⊥
 answered-refused h = let z : ◌≡◌ {A = ℕ} 0 1 = cc in omega arith
 
-number_is : {n m : ℕ} → Refused (Number n) ≡ Refused (Number m) → n ≡ m
-number_is h = cc
-
-pub answer_is : {a b : Told} → Answered a ≡ Answered b → a ≡ b
+pub answer_is : {a b : Told} → ◌≡◌ {A = Outcome} (Ok a) (Ok b) → a ≡ b
 answer_is h = cc
 
 module _ (s : Session) (x : Sample) where
@@ -131,14 +128,10 @@ module _ (s : Session) (x : Sample) where
   unfolding ran_of
   refused_11 = (only, when)
     where
-      number_of : (t : Bool) → accepted s x ≡ t → sample_of s x ≡ refusal_by 11 s → refused_by s x ≡ 11
-      number_of true e h = absurd (answered-refused (sym (ap (λ (r : Sampled). r.outcome) (accepted_runs s x e)) ∙ ap (λ (r : Sampled). r.outcome) h))
-      number_of false e h = number_is (sym (ap (λ (r : Sampled). r.outcome) (refused_stays s x e)) ∙ ap (λ (r : Sampled). r.outcome) h)
-
       only : sample_of s x ≡ refusal_by 11 s
           → Inside s × (CodesMet x × ((x.pulses * s.card.settings.tick ≤ 100000) × ((x.mode ≡ mode_of s → ⊥) × (Still s x → ⊥))))
       only h =
-          let m = (refusal_laws s x).refused_11.0 (number_of (accepted s x) refl h) in
+          let m = (refusal_laws s x).refused_11.0 (sym (number_given s x 11 h).1) in
           (m.0, (m.1.0, (m.1.1.0, ((λ e. m.1.1.1 (inl e)), (λ e. m.1.1.1 (inr e))))))
 
       kept : (x.mode ≡ mode_of s → ⊥) → (Still s x → ⊥) → ModeMet s x → ⊥
@@ -176,7 +169,7 @@ module _ (s : Session) (x : Sample) where
       when : Braked s × (Still s x × (Pressed x × NoCause s x)) → Braked s × ((sample_of s x).session.desk.brake.cause ≡ 0)
       when h = (h.0, cause_after_lem a ∙ laws.goes_off h.1.0 h.1.1.0 h.1.1.1)
 
-  pub told : (a : Told) → (sample_of s x).outcome ≡ Answered a → Accepted s x × ((stepped s (carried s x)).answer ≡ a)
+  pub told : (a : Told) → (sample_of s x).outcome ≡ Ok a → Accepted s x × ((stepped s (carried s x)).answer ≡ a)
   unfolding ran_of
   told a h = cases (accepted s x) refl
     where
@@ -185,10 +178,10 @@ module _ (s : Session) (x : Sample) where
           ((refusal_laws s x).accepted.0 (eqb-true (refused_by s x) 0 e), answer_is (sym (ap (λ (r : Sampled). r.outcome) (accepted_runs s x e)) ∙ h))
       cases false e = absurd (answered-refused (sym h ∙ ap (λ (r : Sampled). r.outcome) (refused_stays s x e)))
 
-  cause_told : (a : Told) → (sample_of s x).outcome ≡ Answered a → (sample_of s x).session.desk.brake.cause ≡ a.cause
+  cause_told : (a : Told) → (sample_of s x).outcome ≡ Ok a → (sample_of s x).session.desk.brake.cause ≡ a.cause
   cause_told a h = let t = told a h in cause_after_lem t.0 ∙ sym laws.cause_told ∙ ap (λ (b : Told). b.cause) t.1
 
-  lamp_10 : (a : Told) → (sample_of s x).outcome ≡ Answered a → (bit_of a.lamps rearm_button ≡ true) ↔ ((a.cause ≡ 0 → ⊥) × Still s x)
+  lamp_10 : (a : Told) → (sample_of s x).outcome ≡ Ok a → (bit_of a.lamps rearm_button ≡ true) ↔ ((a.cause ≡ 0 → ⊥) × Still s x)
   lamp_10 a h = (only, when)
     where
       same : (stepped s (carried s x)).answer ≡ a
@@ -211,14 +204,14 @@ module _ (s : Session) (x : Sample) where
 -- ---- nothing else
 
 -- without rearm the cause told is the first one's, or what arose
-unpressed : (s : Session) (x : Sample) (a : Told) → (sample_of s x).outcome ≡ Answered a → (Pressed x → ⊥)
+unpressed : (s : Session) (x : Sample) (a : Told) → (sample_of s x).outcome ≡ Ok a → (Pressed x → ⊥)
     → a.cause ≡ standing_cause s.desk.brake.cause (stepped s (carried s x)).arose false
 unpressed s x a h none =
     sym (cause_told s x a h) ∙ cause_after_lem s x (told s x a h).0 ∙ (laws s x).cause_after_lem
     ∙ ap (standing_cause s.desk.brake.cause (stepped s (carried s x)).arose)
     (not_so (rearms (carried s x) s.desk) (λ e. none (and_split (standstill x.pulses s.desk.brake) (bit_of x.buttons rearm_button) e).1))
 
-nothing_else : (s : Session) (n : ℕ) (x : Sample) (a b : Told) → (sample_of s x).outcome ≡ Answered a → (sample_of (with_count n s) x).outcome ≡ Answered b
+nothing_else : (s : Session) (n : ℕ) (x : Sample) (a b : Told) → (sample_of s x).outcome ≡ Ok a → (sample_of (with_count n s) x).outcome ≡ Ok b
     → AlikeBut10 s (with_count n s) x a b
 nothing_else s n x a b ea eb =
     let p = told s x a ea in

@@ -36,7 +36,7 @@ use Rattle.step_laws.proofs.Choosing.{pick_has}
 use Rattle.step_laws.proofs.Walk.{AnyReading, sets_any, begun_has, at_limit, limit_pressed_lem, at_beacon_lem, after_beacon}
 use Rattle.session.specs.declared.Sample.{Sample}
 use Rattle.session.specs.declared.Session.{Session}
-use Rattle.session.specs.declared.Outcome.{Outcome}
+use Rattle.session.specs.Session.{Outcome}
 use Rattle.session.specs.Types.{type_speed}
 use Rattle.session.specs.Session.{carried, ran_of, sample_of}
 use Rattle.session.specs.Runs.{accepted, after, outcomes}

@@ -5,9 +5,9 @@ use mathlib.Core.Path.{◌≡◌, refl, sym, ap, ◌∙◌}
 use mathlib.Core.List.{List, [], ◌∷◌}
 use lib.ListN.{length, take}
 use lib.Seq.{take-length}
+use Rattle.std.specs.Prelude.{Ok, Err}
 use Rattle.leaf.specs.Choosing.{pick}
-use Rattle.leaf.specs.Answers.{given, refused}
-use Rattle.leaf.specs.declared.Refusal.TheVariants.{Number}
+use Rattle.leaf.specs.Answers.{given, refused, numbered_refusal}
 use Rattle.card.specs.declared.Card.{Card}
 use Rattle.card.specs.Card.{Same}
 use Rattle.card.specs.Reading.{card_in}
@@ -15,9 +15,8 @@ use Rattle.step.specs.declared.speed.Standing.{Standing}
 use Rattle.session.specs.declared.Sample.{Sample}
 use Rattle.session.specs.declared.Session.{Session}
 use Rattle.session.specs.declared.Sampled.{Sampled}
-use Rattle.session.specs.declared.Outcome.{Outcome}
-use Rattle.session.specs.declared.Outcome.TheVariants as outcome
-use Rattle.session.specs.declared.Told.{Told}
+use Rattle.session.specs.Session.{Outcome}
+use Rattle.session.specs.Why.{Told}
 use Rattle.session.specs.declared.Asked.{Asked}
 use Rattle.session.specs.Types.{type_speed, type_allowed}
 use Rattle.session.specs.Session.{fresh_session, card_inside, refused_by, ran_of, sample_of}
@@ -41,12 +40,12 @@ module _ (t : Card) where
   why_alike u = ap (λ (l : Standing). why_from l u.desk.brake) (reason_alike u.card.settings t.settings (type_speed u.train * 100) u.desk)
 
   explained_alike : (u : Session) (o : Outcome) → explained_of (beside t u) o ≡ record { session = beside t u; told = (explained_of u o).told }
-  explained_alike u (outcome.Answered a) = rw (why_alike u)
-  explained_alike u (outcome.Refused why) = refl
+  explained_alike u (Ok a) = rw (why_alike u)
+  explained_alike u (Err why) = refl
 
   same_session : (u : Session) (o : Outcome) → (explained_of u o).session ≡ u
-  same_session u (outcome.Answered a) = refl
-  same_session u (outcome.Refused why) = refl
+  same_session u (Ok a) = refl
+  same_session u (Err why) = refl
 
   abbrev explained : Sampled → Asked
   explained r = explained_of r.session r.outcome
@@ -112,9 +111,9 @@ module _ (t : Card) where
           (accepted_runs (beside t u) x (rw (refusal_alike t u x both) e) ∙ ran_alike t u x both quiet silent)
           (alike_after u x xs both (all_stay entries u t x quiet silent) ih)
       cases false e k o ih =
-          one_alike u x xs u (outcome.Refused (Number (refused_by u x))) (beside t u).card (refused_stays u x e)
+          one_alike u x xs u (Err (numbered_refusal (refused_by u x))) (beside t u).card (refused_stays u x e)
           (refused_stays (beside t u) x (rw (refusal_alike t u x both) e)
-          ∙ ap (λ (n : ℕ). record { session = beside t u; outcome = outcome.Refused (Number n) }) (refusal_alike t u x both))
+          ∙ ap (λ (n : ℕ). record { session = beside t u; outcome = Err (numbered_refusal n) }) (refusal_alike t u x both))
           (ih u both quiet)
 
 -- ---- from opening

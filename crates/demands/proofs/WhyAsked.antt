@@ -4,6 +4,7 @@ use native.Mathlib.Omega.{arith}
 use mathlib.Core.Bool.{Bool, true, false}
 use mathlib.Core.Path.{◌≡◌, refl, sym, ap, subst, ◌∙◌}
 use lib.Dec.{lit≤}
+use Rattle.std.specs.Prelude.{Ok}
 use Rattle.step.specs.declared.Answer.{Answer as Answered}
 use Rattle.step.specs.declared.speed.Reason.{Reason}
 use Rattle.step.specs.declared.speed.Reason.TheVariants as reason
@@ -12,7 +13,6 @@ use Rattle.step.specs.Reason.{reason_number}
 use Rattle.session.specs.declared.Sample.{Sample}
 use Rattle.session.specs.declared.Session.{Session}
 use Rattle.session.specs.declared.Sampled.{Sampled}
-use Rattle.session.specs.declared.Outcome.TheVariants as outcome
 use Rattle.session.specs.Session.{with_desk, refused_by, carried, stepped, ran_of, sample_of}
 use Rattle.session.specs.Runs.{accepted}
 use Rattle.session.proofs.Runs.{accepted_runs, refused_stays}
@@ -23,7 +23,6 @@ use Rattle.step_laws.proofs.Reason.{reason_laws}
 use Rattle.step_laws.proofs.Speed.{speed_laws}
 use Rattle.laws.specs.Unanswered.{top_of}
 use Rattle.session.specs.declared.Why.{Why}
-use Rattle.session.specs.declared.Told.TheVariants.{Reasoned}
 use Rattle.session.specs.declared.Asked.{Asked}
 use Rattle.session.specs.Why.{named_in, why_now, explained_of, asked_of}
 use Rattle.demands.specs.Demand1.{Exactly, refusal_by}
@@ -96,7 +95,7 @@ module _ (s : Session) (x : Sample) where
       }
 
   -- so in whatever session and with whatever answer the sample is given back
-  met : (t : Session) (a : Answered) → sample_of s x ≡ record { session = t; outcome = outcome.Answered a } → WhyMet t a (why_now t)
+  met : (t : Session) (a : Answered) → sample_of s x ≡ record { session = t; outcome = Ok a } → WhyMet t a (why_now t)
   unfolding ran_of
   met t a e = cases (accepted s x) refl
     where
@@ -119,7 +118,7 @@ module _ (s : Session) (x : Sample) where
       cases true g =
           let e = accepted_runs s x g in
           subst (λ (r : Sampled). AskedAs s x (explained r)) (sym e)
-          (paper.AskedAs.reasoned next answer (why_now next) ((samples_exactly s x (record { session = next; outcome = outcome.Answered answer })).0 e) ran_met)
+          (paper.AskedAs.reasoned next answer (why_now next) ((samples_exactly s x (record { session = next; outcome = Ok answer })).0 e) ran_met)
       cases false g =
           let e = refused_stays s x g in
           subst (λ (r : Sampled). AskedAs s x (explained r)) (sym e) (paper.AskedAs.refused_with (refused_by s x) ((samples_exactly s x (refusal_by (refused_by s x) s)).0 e))
@@ -128,8 +127,8 @@ module _ (s : Session) (x : Sample) where
   unfolding asked_of
   asked_only _ (paper.AskedAs.refused_with n h) = ap explained ((samples_exactly s x (refusal_by n s)).1 h)
   asked_only _ (paper.AskedAs.reasoned t a w h m) =
-      let e = (samples_exactly s x (record { session = t; outcome = outcome.Answered a })).1 h in
-      ap explained e ∙ ap (λ (v : Why). record { session = t; told = Reasoned (record { answer = a; why = v }) }) (one_why t a (why_now t) w (met t a e) m)
+      let e = (samples_exactly s x (record { session = t; outcome = Ok a })).1 h in
+      ap explained e ∙ ap (λ (v : Why). record { session = t; told = Ok (record { answer = a; why = v }) }) (one_why t a (why_now t) w (met t a e) m)
 
   pub asked_exactly : Exactly (asked_of s x) (AskedAs s x)
   asked_exactly = exactly (AskedAs s x) asked_is asked_only

@@ -8,10 +8,10 @@ use mathlib.Core.Path.{◌≡◌, refl, sym, ap, ◌∙◌}
 use lib.Dec.{eqb}
 use lib.ListN.{length}
 use borrow.Author.Tests.{eqb-true, eqb-false, ne_eqb}
+use Rattle.std.specs.Prelude.{Err}
 use Rattle.leaf.specs.Choosing.{pick, and_split}
 use Rattle.leaf.specs.Numbers.{aged_of}
-use Rattle.leaf.specs.Answers.{given}
-use Rattle.leaf.specs.declared.Refusal.TheVariants.{Number}
+use Rattle.leaf.specs.Answers.{given, numbered_refusal}
 use Rattle.card.specs.declared.Card.{Card}
 use Rattle.desk.specs.Brake.{brake_age}
 use Rattle.step.specs.Brake.{stays_on}
@@ -27,7 +27,6 @@ use Rattle.laws.specs.Unanswered.{top_of}
 use Rattle.laws.proofs.Ranges.{inside_only}
 use Rattle.laws.proofs.Refusals.{refusal_laws}
 use Rattle.laws.proofs.Inside.{inside_laws}
-use Rattle.session.specs.declared.Told.TheVariants.{Refused}
 use Rattle.session.specs.Why.{why_now, explained_of, asked_of}
 use Rattle.demands.specs.Standing.{kept_if, accepted_of, Braked}
 use Rattle.demands.specs.Why.{BrakedOn, BrakedFor, Sinces}
@@ -197,7 +196,7 @@ began card train s xs h braked = cases (began_in s (accepted_of s xs) (λ z. bra
 pub age_inside : (card : Card) (train : ℕ) (s : Session) (xs : List Sample) → open_session card train ≡ given s → age_of (after s xs) ≤ 30000
 age_inside card train s xs h = (inside_only _ (inside_laws.always_inside card train s xs h)).desk.brake.age
 
-pub age_outside : (s : Session) (x : Sample) → 30000 < age_of s → asked_of s x ≡ record { session = s; told = Refused (Number 8) }
+pub age_outside : (s : Session) (x : Sample) → 30000 < age_of s → asked_of s x ≡ record { session = s; told = Err (numbered_refusal 8) }
 unfolding asked_of
 age_outside s x high =
     let e = (refusal_laws s x).refused_as 8 ((refusal_laws s x).refused_8.1 (λ i. let low = i.desk.brake.age in omega arith)) (λ z. omega arith) in

@@ -5,9 +5,8 @@
 -- session unchanged." For each kind of input it is written down what it is answered as, case by case in document 01's order, in plain facts:
 -- `≡`, `≤` and `<` on bytes and fields (of card and writer: `ReadAs` and `WrittenAs`, card's specs/Plain.antt). The demand: the answer
 -- is exactly that. So no other function meets it (`only_one`).
-use Rattle.std.specs.Prelude.{ℕ, ◌*◌, ◌≤◌, ◌<◌, List, [], ◌∷◌, ◌↔◌, ◌≡◌, length, Float}
-use Rattle.leaf.specs.Answers.{Answer, given, refused, refused_at}
-use Rattle.leaf.specs.declared.Refusal.TheVariants.{Number}
+use Rattle.std.specs.Prelude.{ℕ, ◌*◌, ◌≤◌, ◌<◌, List, [], ◌∷◌, ◌↔◌, ◌≡◌, length, Float, Ok, Err}
+use Rattle.leaf.specs.Answers.{Answer, given, refused, refused_at, numbered_refusal}
 use Rattle.card.specs.declared.Card.{Card}
 use Rattle.card.specs.declared.Settings.{Settings}
 use Rattle.card.specs.Plain.{ReadAs, WrittenAs}
@@ -21,7 +20,6 @@ use Rattle.step.specs.declared.Answer.{Answer as Told}
 use Rattle.session.specs.declared.Sample.{Sample}
 use Rattle.session.specs.declared.Session.{Session}
 use Rattle.session.specs.declared.Sampled.{Sampled}
-use Rattle.session.specs.declared.Outcome.TheVariants.{Answered, Refused}
 use Rattle.session.specs.Session.{ran_of, sample_of}
 use Rattle.rides.specs.Recording.{RecordingMet, train_of, samples_of}
 use Rattle.rides.specs.Ride.{whole_ride}
@@ -50,7 +48,7 @@ pub data ClassifiedAs (area : List ℕ) (tone : Float) : Answer Reading → Type
 
 -- ".. and leaves .. the handed-in session unchanged"
 abbrev pub refusal_by : ℕ → Session → Sampled
-refusal_by n s = record { session = s; outcome = Refused (Number n) }
+refusal_by n s = record { session = s; outcome = Err (numbered_refusal n) }
 
 pub data SampledAs (s : Session) (x : Sample) : Sampled → Type 0 where
   -- "session out of its ranges"
@@ -69,7 +67,7 @@ pub data SampledAs (s : Session) (x : Sample) : Sampled → Type 0 where
 pub data ShownAs : Session → List Sample → List (Answer Told) → Type 0 where
   none : {s : Session} → ShownAs s [] []
   answered : {s after : Session} {x : Sample} {a : Told} {xs : List Sample} {rest : List (Answer Told)}
-      → SampledAs s x (record { session = after; outcome = Answered a }) → ShownAs after xs rest → ShownAs s (x ∷ xs) (given a ∷ rest)
+      → SampledAs s x (record { session = after; outcome = Ok a }) → ShownAs after xs rest → ShownAs s (x ∷ xs) (given a ∷ rest)
   ended : {s : Session} {x : Sample} {n : ℕ} {xs : List Sample} → SampledAs s x (refusal_by n s) → ShownAs s (x ∷ xs) (refused n ∷ [])
 
 pub data RiddenAs (card : Card) (recording : List ℕ) : Answer (List (Answer Told)) → Type 0 where

@@ -13,7 +13,7 @@ use Rattle.card.specs.declared.Card.{Card}
 use Rattle.card.specs.Card.{length_of, speaks, Same}
 use Rattle.card.specs.Reading.{settings_of, read_card, card_in}
 use Rattle.session.specs.declared.Sample.{Sample}
-use Rattle.session.specs.declared.Outcome.{Outcome}
+use Rattle.session.specs.Session.{Outcome}
 use Rattle.text.specs.Decimal.{newline}
 use Rattle.printed.specs.declared.Columns.{Columns}
 use Rattle.rides.specs.Recording.{train_of, samples_of}

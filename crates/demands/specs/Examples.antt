@@ -1,5 +1,5 @@
 -- The cards, samples and answers of the examples, in numbers.
-use Rattle.std.specs.Prelude.{ℕ, zero, suc, Bool, false, List, [], ◌∷◌, ◌++◌}
+use Rattle.std.specs.Prelude.{ℕ, zero, suc, Bool, false, List, [], ◌∷◌, ◌++◌, Ok}
 use Rattle.leaf.specs.Answers.{Answer, given, refused, refused_at}
 use Rattle.card.specs.declared.Row.{Row}
 use Rattle.card.specs.declared.Card.{Card}
@@ -8,8 +8,7 @@ use Rattle.card.specs.Card.{no_pairs}
 use Rattle.card.specs.CardA.{card_a}
 use Rattle.session.specs.declared.Sample.{Sample}
 use Rattle.session.specs.declared.Session.{Session}
-use Rattle.session.specs.declared.Outcome.{Outcome}
-use Rattle.session.specs.declared.Outcome.TheVariants as outcome
+use Rattle.session.specs.Session.{Outcome}
 use Rattle.session.specs.Session.{sample_of}
 use Rattle.session.specs.Runs.{after}
 
@@ -36,7 +35,7 @@ end_of (refused_at n place) xs x = refused_at n place
 -- ---- answers: "S, lamps, cause (0 none), crossing icon (0, 1 protected, 2 unprotected), limit standing or not"
 
 abbrev pub answer : ℕ → ℕ → ℕ → ℕ → Bool → Outcome
-answer speed lamps cause icon limit = outcome.Answered (record { speed = speed; lamps = lamps; cause = cause; icon = icon; limit = limit })
+answer speed lamps cause icon limit = Ok (record { speed = speed; lamps = lamps; cause = cause; icon = icon; limit = limit })
 
 -- no crossing, no limit
 abbrev pub shows : ℕ → ℕ → ℕ → Outcome

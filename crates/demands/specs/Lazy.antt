@@ -1,5 +1,5 @@
 -- Lazy programs, by name. Of each: a statement that reads much like ours and lets it pass, and that ours does not.
-use Rattle.std.specs.Prelude.{ℕ, ◌+◌, ◌*◌, ◌-◌, min, ◌≤◌, ◌<◌, Bool, true, ◌&&◌, not, List, [], ◌∷◌, ◌++◌, map, ◌≡◌, eqb, length, take}
+use Rattle.std.specs.Prelude.{ℕ, ◌+◌, ◌*◌, ◌-◌, min, ◌≤◌, ◌<◌, Bool, true, ◌&&◌, not, List, [], ◌∷◌, ◌++◌, map, ◌≡◌, eqb, length, take, None, Ok, Err}
 use Rattle.leaf.specs.Choosing.{pick}
 use Rattle.leaf.specs.Bytes.{byte}
 use Rattle.leaf.specs.Checks.{Check, FirstFault}
@@ -15,14 +15,12 @@ use Rattle.step.specs.declared.Answer.{Answer as Told}
 use Rattle.session.specs.declared.Sample.{Sample}
 use Rattle.session.specs.declared.Session.{Session}
 use Rattle.session.specs.declared.Sampled.{Sampled}
-use Rattle.session.specs.declared.Outcome.{Outcome}
-use Rattle.session.specs.declared.Outcome.TheVariants.{Answered, Refused}
+use Rattle.session.specs.Session.{Outcome}
 use Rattle.session.specs.Session.{open_session, carried, stepped, sample_of, outcome_of}
 use Rattle.session.specs.Runs.{outcomes, all_accepted}
 use Rattle.rides.specs.Recording.{good_recording, RecordingMet, samples_in, train_of, place_of, first_samples, samples_of}
 use Rattle.rides.specs.Ride.{fresh_ride, start_ride, shown_of, shown_by, whole_ride}
 use Rattle.rides.specs.Replay.{due_from, replay_of}
-use Rattle.rides.specs.declared.replay.Last.TheVariants as last
 use Rattle.rides.specs.declared.replay.End.TheVariants as end
 use Rattle.receiver.specs.Receiver.{end_of}
 use Rattle.receiver.specs.declared.Status.TheVariants as status
@@ -38,8 +36,7 @@ use Rattle.demands.specs.Quiet.{stepped_before, Arisen, Raiser, Raises}
 use Rattle.step.specs.declared.speed.Standing.{Standing}
 use Rattle.step.specs.Speed.{none, limits}
 use Rattle.session.specs.declared.Reasoned.{Reasoned}
-use Rattle.session.specs.declared.Told.{Told as Asking}
-use Rattle.session.specs.declared.Told.TheVariants as asked
+use Rattle.session.specs.Why.{Told as Asking}
 use Rattle.session.specs.Why.{why_from, asked_of}
 use Rattle.step_laws.specs.Reason.{reason_place, Limits}
 use Rattle.laws.specs.Unanswered.{top_of}
@@ -56,8 +53,8 @@ mapped f (refused_at n place) = refused_at n place
 
 -- whether a sample is accepted, and if not by what number it is refused
 abbrev pub verdict : Outcome → Answer Unit
-verdict (Answered a) = given tt
-verdict (Refused why) = refusal_of why
+verdict (Ok a) = given tt
+verdict (Err why) = refusal_of why
 
 -- it refuses exactly as document 01 says
 abbrev pub RefusesAlike : Logic → Type 0
@@ -65,8 +62,8 @@ RefusesAlike f = (card : Card) (train : ℕ) (xs : List Sample) → mapped (map 
 
 -- one that refuses exactly as document 01 says, and answers 8000 to every accepted sample
 abbrev pub at8000 : Outcome → Outcome
-at8000 (Answered a) = Answered (record { speed = 8000; lamps = a.lamps; cause = a.cause; icon = a.icon; limit = a.limit })
-at8000 (Refused why) = Refused why
+at8000 (Ok a) = Ok (record { speed = 8000; lamps = a.lamps; cause = a.cause; icon = a.icon; limit = a.limit })
+at8000 (Err why) = Err why
 
 abbrev pub eight_thousand : Logic
 eight_thousand card train xs = mapped (map at8000) (document01 card train xs)
@@ -74,13 +71,13 @@ eight_thousand card train xs = mapped (map at8000) (document01 card train xs)
 -- one that refuses exactly as document 01 says, and gives every later accepted sample the first answer
 abbrev pub again : Told → List Outcome → List Outcome
 again a [] = []
-again a (Answered b ∷ rest) = Answered a ∷ again a rest
-again a (Refused why ∷ rest) = Refused why ∷ again a rest
+again a (Ok b ∷ rest) = Ok a ∷ again a rest
+again a (Err why ∷ rest) = Err why ∷ again a rest
 
 abbrev pub first_again : List Outcome → List Outcome
 first_again [] = []
-first_again (Answered a ∷ rest) = Answered a ∷ again a rest
-first_again (Refused why ∷ rest) = Refused why ∷ first_again rest
+first_again (Ok a ∷ rest) = Ok a ∷ again a rest
+first_again (Err why ∷ rest) = Err why ∷ first_again rest
 
 abbrev pub repeater : Logic
 repeater card train xs = mapped first_again (document01 card train xs)
@@ -97,8 +94,8 @@ pub record LogicsOut : Type 0 where
 -- Said of all samples, refused ones too, the kinds would not have them: the one speed would be a refused sample's as well, and the answer
 -- to a refused sample would be repeated, or a refusal to an accepted one.
 abbrev pub speed_told : Outcome → ℕ
-speed_told (Answered a) = a.speed
-speed_told (Refused why) = 0
+speed_told (Ok a) = a.speed
+speed_told (Err why) = 0
 
 abbrev pub OneSpeedOfAll : (Session → Sample → Sampled) → Type 0
 OneSpeedOfAll f = (speed : ℕ) × ((s : Session) (x : Sample) → speed_told (f s x).outcome ≡ speed)
@@ -289,7 +286,7 @@ pub record CausesOut : Type 0 where
 
 -- one that runs nothing and refuses nothing: any two of its quotas give what one of their sum gives
 abbrev pub idles : Replayer
-idles recording place s quota = record { session = s; last = last.None; ran = 0; end = end.Unrefused }
+idles recording place s quota = record { session = s; last = None; ran = 0; end = end.Unrefused }
 
 -- one that starts at place 0, whatever the place: a whole quota from there is the ride
 abbrev pub from_start : Replayer
@@ -316,7 +313,7 @@ pub record ReplaysOut : Type 0 where
 
 -- A statement of the named limit alone: it stands, and has the answer's S and the age that is told.
 abbrev pub NamesStanding : Asker → Type 0
-NamesStanding ask = (s : Session) (x : Sample) (r : Reasoned) → (ask s x).told ≡ asked.Reasoned r → (let t = (ask s x).session in
+NamesStanding ask = (s : Session) (x : Sample) (r : Reasoned) → (ask s x).told ≡ Ok r → (let t = (ask s x).session in
     Limits t.card.settings (top_of t) t.desk (reason_place r.why.reason) r.answer.speed r.why.age)
 
 -- the last of a list that stands and has this speed
@@ -325,9 +322,9 @@ last_at speed [] = none
 last_at speed (l ∷ rest) = pick (last_at speed rest).stands (last_at speed rest) (pick (l.stands && eqb l.speed speed) l none)
 
 abbrev pub last_named : Session → Asking → Asking
-last_named t (asked.Reasoned r) =
-    asked.Reasoned (record { answer = r.answer; why = why_from (last_at r.answer.speed (limits t.card.settings (top_of t) t.desk)) t.desk.brake })
-last_named t (asked.Refused why) = asked.Refused why
+last_named t (Ok r) =
+    Ok (record { answer = r.answer; why = why_from (last_at r.answer.speed (limits t.card.settings (top_of t) t.desk)) t.desk.brake })
+last_named t (Err why) = Err why
 
 -- one that names the last of equal ones
 abbrev pub names_last : Asker

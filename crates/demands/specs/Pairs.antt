@@ -10,7 +10,7 @@ use Rattle.card.specs.declared.Card.{Card}
 use Rattle.sides.specs.Pairs.{nothing_paired}
 use Rattle.session.specs.declared.Sample.{Sample}
 use Rattle.session.specs.declared.Session.{Session}
-use Rattle.session.specs.declared.Outcome.{Outcome}
+use Rattle.session.specs.Session.{Outcome}
 use Rattle.session.specs.Session.{open_session, refused_by, carried, sample_of}
 use Rattle.session.specs.Runs.{accepted, after, outcomes}
 use Rattle.step.specs.Step.{step_of}

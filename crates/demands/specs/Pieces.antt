@@ -6,7 +6,7 @@
 --
 -- What a byte and an announced end do to a receiver is defined in crate `receiver`, the lines that they print in `printed`. Here it is
 -- said what that comes to, of bytes put together; that the cutting does not matter is the first statement. (a1 to a11 are 02's readings.)
-use Rattle.std.specs.Prelude.{ℕ, ◌+◌, ◌*◌, ◌≤◌, ◌<◌, true, false, ◌≡◌, length, drop, eqb}
+use Rattle.std.specs.Prelude.{ℕ, ◌+◌, ◌*◌, ◌≤◌, ◌<◌, true, false, ◌≡◌, length, drop, eqb, Ok, Err}
 use mathlib.Core.List.{List, [], ◌∷◌, ◌++◌, map, flatten}
 use Rattle.leaf.specs.Choosing.{pick}
 use Rattle.leaf.specs.Answers.{Answer, given, refused, refused_at}
@@ -18,8 +18,7 @@ use Rattle.card.specs.Reading.{card_in}
 use Rattle.step.specs.declared.Answer.{Answer as Told}
 use Rattle.session.specs.declared.Sample.{Sample}
 use Rattle.session.specs.declared.Session.{Session}
-use Rattle.session.specs.declared.Outcome.{Outcome}
-use Rattle.session.specs.declared.Outcome.TheVariants as outcome
+use Rattle.session.specs.Session.{Outcome}
 use Rattle.session.specs.Session.{open_session, sample_of, outcome_of}
 use Rattle.session.specs.Runs.{after, outcomes, all_accepted}
 use Rattle.rides.specs.Recording.{good_recording, train_of, place_of, first_samples, samples_of}
@@ -151,8 +150,8 @@ pub data PartAs (s : Session) (part : List ℕ) : Status → Type 0 where
 
 -- the status after a complete sample
 abbrev pub status_after : Outcome → Status
-status_after (outcome.Answered a) = Open
-status_after (outcome.Refused why) = Refused (number_of why)
+status_after (Ok a) = Open
+status_after (Err why) = Refused (number_of why)
 
 -- a complete sample is what `sample` says
 pub record Complete (card : Card) (before six : List ℕ) (s : Session) : Type 0 where

@@ -5,12 +5,11 @@
 --
 -- Code, alarm and cause are defined in crates `leaf`, `tone`, `beacons` and `step`. Here it is said what they come to, in plain facts, of every
 -- session and every sample, and against the desk as it was before this request. (c1 to c8 are 02's readings.)
-use Rattle.std.specs.Prelude.{ℕ, ◌*◌, ◌^◌, ◌≤◌, Bool, true, false, ◌&&◌, ◌||◌, List, [], ◌∷◌, ◌⊎◌, ◌↔◌, ◌≡◌, leb, eqb, Float}
+use Rattle.std.specs.Prelude.{ℕ, ◌*◌, ◌^◌, ◌≤◌, Bool, true, false, ◌&&◌, ◌||◌, List, [], ◌∷◌, ◌⊎◌, ◌↔◌, ◌≡◌, leb, eqb, Float, Ok, Err}
 use Rattle.leaf.specs.Choosing.{pick}
 use Rattle.leaf.specs.Numbers.{bit_of, buttons_top}
 use Rattle.leaf.specs.Checks.{Check, first_bad}
-use Rattle.leaf.specs.Answers.{Answer, given}
-use Rattle.leaf.specs.declared.Refusal.TheVariants.{Number}
+use Rattle.leaf.specs.Answers.{Answer, given, numbered_refusal}
 use Rattle.tone.specs.declared.Reading.{Reading}
 use Rattle.tone.specs.declared.Reading.TheVariants.{Permanent, Nothing}
 use Rattle.tone.specs.Tones.{classify_of, code_of}
@@ -25,8 +24,7 @@ use Rattle.step.specs.declared.Stepped.{Stepped}
 use Rattle.session.specs.declared.Sample.{Sample}
 use Rattle.session.specs.declared.Session.{Session}
 use Rattle.session.specs.declared.Sampled.{Sampled}
-use Rattle.session.specs.declared.Outcome.{Outcome}
-use Rattle.session.specs.declared.Outcome.TheVariants.{Answered, Refused}
+use Rattle.session.specs.Session.{Outcome}
 use Rattle.session.specs.Session.{with_desk, open_session, inside_of, in_bts, refused_by, carried, sampled_as, stepped, sample_of}
 use Rattle.step_laws.specs.Unanswered.{reads}
 use Rattle.step_laws.specs.Quiet.{step_before}
@@ -59,7 +57,7 @@ stepped_before s x = step_before s.card (top_of s) (carried s x) s.desk
 
 unfoldable pub sample_before : Session → Sample → Sampled
 sample_before s x =
-    pick (eqb (refused_before s x) 0) (sampled_as s (stepped_before s x)) (record { session = s; outcome = Refused (Number (refused_before s x)) })
+    pick (eqb (refused_before s x) 0) (sampled_as s (stepped_before s x)) (record { session = s; outcome = Err (numbered_refusal (refused_before s x)) })
 
 -- a list of samples, each with the session that it leaves and its outcome, by either desk
 unfoldable pub sampled_by : (Session → Sample → Sampled) → Session → List Sample → List Sampled
@@ -137,13 +135,13 @@ pub record Quiet : Type 0 where
   -- 2. Cause, lamp and last code, of every session and every accepted sample; without this rule no cause is above 5.
   pub causes : Raises (λ s x. (stepped s (carried s x)).arose)
   pub before_high : (s : Session) (x : Sample) → (stepped_before s x).arose ≤ 5
-  pub alarm : (s : Session) (x : Sample) (a : Told) → (sample_of s x).outcome ≡ Answered a → Alarm s x a
+  pub alarm : (s : Session) (x : Sample) (a : Told) → (sample_of s x).outcome ≡ Ok a → Alarm s x a
   -- 3. "Code 12 is no beacon": nothing else comes of it, and it is refused where 0 is.
-  pub nothing_else : (s : Session) (x : Sample) (a b : Told) → (sample_of s (coded 12 x)).outcome ≡ Answered a → (sample_of s (coded 0 x)).outcome ≡ Answered b
+  pub nothing_else : (s : Session) (x : Sample) (a b : Told) → (sample_of s (coded 12 x)).outcome ≡ Ok a → (sample_of s (coded 0 x)).outcome ≡ Ok b
       → AlikeButAlarm s x a b
   pub refused_alike : (s : Session) (x : Sample) → refused_by s (coded 12 x) ≡ refused_by s (coded 0 x)
   -- 4. "yet the code after it counts as changed.": a beacon behind a 12 leaves the session and is answered as behind a 0.
-  pub counts_changed : (s : Session) (x : Sample) (a : Told) → 1 ≤ x.beacon → x.beacon ≤ 11 → (sample_of (with_last 12 s) x).outcome ≡ Answered a
+  pub counts_changed : (s : Session) (x : Sample) (a : Told) → 1 ≤ x.beacon → x.beacon ≤ 11 → (sample_of (with_last 12 s) x).outcome ≡ Ok a
       → sample_of (with_last 12 s) x ≡ sample_of (with_last 0 s) x
   -- 5. "Refusals: 9 from code 13."; "buttons above 2047 stay 9" (c7); "code 0..12, cause 0..6" of the session (c7, c8): 12 is in its range where 0 is,
   -- 6 where 5 is.
@@ -168,7 +166,7 @@ abbrev pub ride_r : List Sample → Answer (List Outcome)
 ride_r xs = ride_of (card_r (0x0F ∷ 0x00 ∷ 0xC8 ∷ 0x01 ∷ 0xF4 ∷ [])) 2 6 xs
 
 abbrev pub by : ℕ → Outcome
-by n = Refused (Number n)
+by n = Err (numbered_refusal n)
 
 pub record QuietExamples : Type 0 where
   -- "0/12, 0/12/1024, 0/0/1024 have causes 6, 6, 0." (c2); "0/12 at standstill has lamps 3072" (c7)

@@ -7,7 +7,7 @@
 --
 -- A replay is defined in crate `rides` (specs/Replay.antt). Here it is said what it comes to, in demand 1's plain facts and over lists of
 -- samples; of every place and quota, 0 and the greatest included. (d1 to d7 are 02's readings.)
-use Rattle.std.specs.Prelude.{ℕ, suc, ◌+◌, ◌-◌, min, ◌≤◌, ◌<◌, true, false, List, [], ◌∷◌, ◌++◌, ◌⊎◌, ◌↔◌, ◌≡◌}
+use Rattle.std.specs.Prelude.{ℕ, suc, ◌+◌, ◌-◌, min, ◌≤◌, ◌<◌, true, false, List, [], ◌∷◌, ◌++◌, ◌⊎◌, ◌↔◌, ◌≡◌, Some, None, Ok}
 use Rattle.leaf.specs.Choosing.{pick}
 use Rattle.leaf.specs.Answers.{Answer, given, refused, refused_at}
 use Rattle.card.specs.declared.Card.{Card}
@@ -16,14 +16,12 @@ use Rattle.desk.specs.State.{with_limit}
 use Rattle.step.specs.declared.Answer.{Answer as Told}
 use Rattle.session.specs.declared.Sample.{Sample}
 use Rattle.session.specs.declared.Session.{Session}
-use Rattle.session.specs.declared.Outcome.TheVariants as outcome
 use Rattle.session.specs.Session.{fresh_session, with_desk, open_session, sample_of}
 use Rattle.session.specs.Runs.{accepted, after, all_accepted}
 use Rattle.rides.specs.Recording.{RecordingMet, train_of, sample_at, samples_from, samples_of}
 use Rattle.rides.specs.Ride.{fresh_ride, run_of, whole_ride}
 use Rattle.rides.specs.Replay.{steps_from, replay_of}
-use Rattle.rides.specs.declared.replay.Last.{Last}
-use Rattle.rides.specs.declared.replay.Last.TheVariants as last
+use Rattle.rides.specs.Replay.{Last}
 use Rattle.rides.specs.declared.replay.End.{End}
 use Rattle.rides.specs.declared.replay.End.TheVariants as end
 use Rattle.rides.specs.declared.replay.Replayed.{Replayed}
@@ -36,10 +34,10 @@ use Rattle.demands.specs.Examples.{conv, card_of_a}
 -- from session s, k samples of the recording from a place on are accepted in turn, each by the session that the one before it left; then the
 -- session is the one that stands behind k, and behind that "the last answer (none if no sample ran)"
 pub data InTurn (recording : List ℕ) (place : ℕ) (s : Session) : ℕ → Session → Last → Type 0 where
-  none : InTurn recording place s 0 s last.None
+  none : InTurn recording place s 0 s None
   one_more : {k : ℕ} {before behind : Session} {l : Last} {a : Told} → InTurn recording place s k before l
-      → SampledAs before (sample_at recording (place + k)) (record { session = behind; outcome = outcome.Answered a })
-      → InTurn recording place s (suc k) behind (last.Answered a)
+      → SampledAs before (sample_at recording (place + k)) (record { session = behind; outcome = Ok a })
+      → InTurn recording place s (suc k) behind (Some a)
 
 -- how many samples of a list are accepted in turn before the first refused one, or the list's end
 unfoldable pub accepted_run : Session → List Sample → ℕ
@@ -50,7 +48,7 @@ accepted_run s (x ∷ xs) = pick (accepted s x) (suc (accepted_run (sample_of s 
 
 -- no sample ran, and the session is the one handed in
 abbrev pub none_run : ℕ → Session → Replayed
-none_run n s = record { session = s; last = last.None; ran = 0; end = end.Refused n }
+none_run n s = record { session = s; last = None; ran = 0; end = end.Refused n }
 
 pub data ReplayedAs (recording : List ℕ) (place : ℕ) (s : Session) (quota : ℕ) : Replayed → Type 0 where
   -- "recording not exactly as long as stated, length not 6 + 6n with n ≤ 10,000, or version not 1"
@@ -70,10 +68,10 @@ pub data ReplayedAs (recording : List ℕ) (place : ℕ) (s : Session) (quota : 
 
 -- the last answer of k samples from a place on: that of the last of them, by the session that those before it left
 pub data LastAs (recording : List ℕ) (place : ℕ) (s : Session) : ℕ → Last → Type 0 where
-  none : LastAs recording place s 0 last.None
+  none : LastAs recording place s 0 None
   answered : {k : ℕ} {a : Told}
-      → (sample_of (after s (samples_from recording place k)) (sample_at recording (place + k))).outcome ≡ outcome.Answered a
-      → LastAs recording place s (suc k) (last.Answered a)
+      → (sample_of (after s (samples_from recording place k)) (sample_at recording (place + k))).outcome ≡ Ok a
+      → LastAs recording place s (suc k) (Some a)
 
 -- what a replay that was not refused before any sample has run: as many samples as it says, each accepted in turn; session and last answer are
 -- those after them
@@ -93,8 +91,8 @@ pub record Stopped (recording : List ℕ) (place : ℕ) (r : Replayed) (due m po
 
 -- "the first's answer standing if the second runs none"
 abbrev pub standing : Last → Last → Last
-standing l last.None = l
-standing l (last.Answered a) = last.Answered a
+standing l None = l
+standing l (Some a) = Some a
 
 -- one replay, and another behind it
 abbrev pub joined : Replayed → Replayed → Replayed
@@ -121,7 +119,7 @@ answers_in (refused_at n at ∷ rest) = answers_in rest
 
 abbrev pub last_in : Last → List (Answer Told) → Last
 last_in l [] = l
-last_in l (given a ∷ rest) = last_in (last.Answered a) rest
+last_in l (given a ∷ rest) = last_in (Some a) rest
 last_in l (refused n ∷ rest) = last_in l rest
 last_in l (refused_at n at ∷ rest) = last_in l rest
 
@@ -132,7 +130,7 @@ end_in place (refused n ∷ rest) = end.RefusedAt n place
 end_in place (refused_at n at ∷ rest) = end.RefusedAt n place
 
 abbrev pub as_shown : ℕ → Session → List (Answer Told) → Replayed
-as_shown place s shown = record { session = s; last = last_in last.None shown; ran = answers_in shown; end = end_in place shown }
+as_shown place s shown = record { session = s; last = last_in None shown; ran = answers_in shown; end = end_in place shown }
 
 -- "A whole quota from place 0 on the opened session is the ride": every answer of it is counted, the last one given, and what ended it, ended it
 abbrev pub WholeRide : Replayer → Type 0
@@ -216,7 +214,7 @@ nine_steps = with_desk (with_limit nine_stepped opened.desk) opened
 
 -- no crossing, no limit
 abbrev pub told : ℕ → ℕ → ℕ → Last
-told speed lamps cause = last.Answered (record { speed = speed; lamps = lamps; cause = cause; icon = 0; limit = false })
+told speed lamps cause = Some (record { speed = speed; lamps = lamps; cause = cause; icon = 0; limit = false })
 
 abbrev pub greatest : ℕ
 greatest = 18446744073709551615
@@ -247,16 +245,16 @@ pub record ReplayExamples : Type 0 where
   pub greatest_quota : replay_of three 0 opened greatest ≡ replay_of three 0 opened 3
   pub rest : replay_of three 2 (rode (one ∷ two ∷ [])) greatest ≡ replayed (rode (one ∷ two ∷ last_of_three ∷ [])) (told 8000 0 0) 1 end.Unrefused
   -- "at n and beyond none are left, nothing is refused" (d1); quota 0
-  pub at_the_end : replay_of three 3 opened 1 ≡ replayed opened last.None 0 end.Unrefused
-  pub past_end : replay_of three 4 opened greatest ≡ replayed opened last.None 0 end.Unrefused
-  pub far_past_end : replay_of three greatest opened greatest ≡ replayed opened last.None 0 end.Unrefused
-  pub no_quota : replay_of three 0 opened 0 ≡ replayed opened last.None 0 end.Unrefused
+  pub at_the_end : replay_of three 3 opened 1 ≡ replayed opened None 0 end.Unrefused
+  pub past_end : replay_of three 4 opened greatest ≡ replayed opened None 0 end.Unrefused
+  pub far_past_end : replay_of three greatest opened greatest ≡ replayed opened None 0 end.Unrefused
+  pub no_quota : replay_of three 0 opened 0 ≡ replayed opened None 0 end.Unrefused
   -- "The ride's type byte is not looked at, 0 or 99 included: no 7" (d2)
   pub type_99 : replay_of (three_with 99 7) 0 opened 3 ≡ replay_of three 0 opened 3
   pub type_0 : replay_of (three_with 0 7) 0 opened 3 ≡ replay_of three 0 opened 3
   -- beacon 13 in the second sample: what ran before it, its number and position (d4); just behind the quota it is not looked at (d5), nor before the place
   pub refused_second : replay_of (three_with 6 13) 0 opened 3 ≡ replayed (rode (one ∷ [])) (told 10000 0 0) 1 (end.RefusedAt 9 1)
-  pub refused_first_due : replay_of (three_with 6 13) 1 opened 1 ≡ replayed opened last.None 0 (end.RefusedAt 9 1)
+  pub refused_first_due : replay_of (three_with 6 13) 1 opened 1 ≡ replayed opened None 0 (end.RefusedAt 9 1)
   pub behind_quota : replay_of (three_with 6 13) 0 opened 1 ≡ replayed (rode (one ∷ [])) (told 10000 0 0) 1 end.Unrefused
   pub before_place : replay_of (three_with 6 13) 2 opened 1 ≡ replayed (rode (last_of_three ∷ [])) (told 10000 0 0) 1 end.Unrefused
   -- "14, then 8, also at quota 0 or past the end, then 9, 10, 11" (d3)

@@ -1,7 +1,7 @@
 -- Document 01: "Shut out by name: a logic that refuses everything (demand 1); one that answers one speed for ever, returns the session
 -- untouched, or obeys the first sample and then repeats itself (demand 2); an invented place or printed sample number (demands 1 and 2)."
 -- One that equals document 01's definitions, as our functions do, is none of these.
-use Rattle.std.specs.Prelude.{ℕ, suc, false, List, [], ◌∷◌, ◌++◌, map, ◌≡◌, length, Float}
+use Rattle.std.specs.Prelude.{ℕ, suc, false, List, [], ◌∷◌, ◌++◌, map, ◌≡◌, length, Float, Ok, Err}
 use Rattle.leaf.specs.Bytes.{byte}
 use Rattle.leaf.specs.Answers.{Answer, given, refused_at, is_given}
 use Rattle.card.specs.declared.Card.{Card}
@@ -16,8 +16,7 @@ use Rattle.step.specs.declared.Answer.{Answer as Told}
 use Rattle.session.specs.declared.Sample.{Sample}
 use Rattle.session.specs.declared.Session.{Session}
 use Rattle.session.specs.declared.Sampled.{Sampled}
-use Rattle.session.specs.declared.Outcome.{Outcome}
-use Rattle.session.specs.declared.Outcome.TheVariants.{Answered, Refused}
+use Rattle.session.specs.Session.{Outcome}
 use Rattle.session.specs.Session.{open_session, sample_of}
 use Rattle.text.specs.Decimal.{line}
 use Rattle.rides.specs.Ride.{start_ride}
@@ -43,8 +42,8 @@ Equals f = (card : Card) (train : ℕ) (xs : List Sample) → f card train xs �
 -- the answers to accepted samples among its outcomes
 abbrev pub answers_in : List Outcome → List Told
 answers_in [] = []
-answers_in (Answered a ∷ rest) = a ∷ answers_in rest
-answers_in (Refused why ∷ rest) = answers_in rest
+answers_in (Ok a ∷ rest) = a ∷ answers_in rest
+answers_in (Err why ∷ rest) = answers_in rest
 
 -- each of them is a
 abbrev pub All : {A : Type 0} → A → List A → Type 0
@@ -73,11 +72,11 @@ Repeats f = (card : Card) (train : ℕ) (xs : List Sample) (os : List Outcome) �
 -- a sample that is accepted is answered the same after any others: the logic forgets
 abbrev pub Forgets : Logic → Type 0
 Forgets f = (card : Card) (train : ℕ) (x : Sample) (xs ys : List Sample) (os ps : List Outcome) (a b : Told)
-    → f card train (xs ++ x ∷ []) ≡ given (os ++ Answered a ∷ []) → f card train (ys ++ x ∷ []) ≡ given (ps ++ Answered b ∷ []) → a ≡ b
+    → f card train (xs ++ x ∷ []) ≡ given (os ++ Ok a ∷ []) → f card train (ys ++ x ∷ []) ≡ given (ps ++ Ok b ∷ []) → a ≡ b
 
 -- "returns the session untouched": a logic of one sample, where it answers
 abbrev pub Untouched : (Session → Sample → Sampled) → Type 0
-Untouched f = (s : Session) (x : Sample) (a : Told) → (f s x).outcome ≡ Answered a → (f s x).session ≡ s
+Untouched f = (s : Session) (x : Sample) (a : Told) → (f s x).outcome ≡ Ok a → (f s x).session ≡ s
 
 -- ---- the statement
 

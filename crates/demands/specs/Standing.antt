@@ -5,19 +5,17 @@
 --
 -- Count and standstill are defined in crate `desk` (specs/Brake.antt). Here it is said what the count is, from the samples alone, and what
 -- standstill comes to, in plain facts. (b1 to b8 are 02's readings.)
-use Rattle.std.specs.Prelude.{ℕ, ◌+◌, ◌*◌, ◌^◌, min, ◌≤◌, ◌<◌, Bool, true, false, List, [], ◌∷◌, ◌++◌, ◌↔◌, ◌≡◌, length}
-use Rattle.leaf.specs.Answers.{Answer, given}
+use Rattle.std.specs.Prelude.{ℕ, ◌+◌, ◌*◌, ◌^◌, min, ◌≤◌, ◌<◌, Bool, true, false, List, [], ◌∷◌, ◌++◌, ◌↔◌, ◌≡◌, length, Ok, Err}
+use Rattle.leaf.specs.Answers.{Answer, given, numbered_refusal}
 use Rattle.leaf.specs.Numbers.{bit_of}
 use Rattle.leaf.specs.Buttons.{rearm_button}
-use Rattle.leaf.specs.declared.Refusal.TheVariants.{Number}
 use Rattle.card.specs.declared.Card.{Card}
 use Rattle.desk.specs.declared.brake.Brake.{Brake}
 use Rattle.desk.specs.State.{with_brake}
 use Rattle.step.specs.declared.Answer.{Answer as Told}
 use Rattle.session.specs.declared.Sample.{Sample}
 use Rattle.session.specs.declared.Session.{Session}
-use Rattle.session.specs.declared.Outcome.{Outcome}
-use Rattle.session.specs.declared.Outcome.TheVariants.{Answered, Refused}
+use Rattle.session.specs.Session.{Outcome}
 use Rattle.session.specs.Session.{with_desk, open_session, carried, stepped, sample_of}
 use Rattle.session.specs.Runs.{accepted, after}
 use Rattle.step_laws.specs.Brake.{AtStandstill}
@@ -89,10 +87,10 @@ pub record StandstillLaws (s : Session) (x : Sample) : Type 0 where
   -- a rearm takes effect, which is to say that the brake goes off: on before, standstill, the press, no cause
   pub rearmed : Accepted s x → (Braked s × ((sample_of s x).session.desk.brake.cause ≡ 0)) ↔ (Braked s × (Still s x × (Pressed x × NoCause s x)))
   -- lamp 10 of the answer: braked after the sample, "also with a fresh cause" (b7), and standstill
-  pub lamp_10 : (a : Told) → (sample_of s x).outcome ≡ Answered a
+  pub lamp_10 : (a : Told) → (sample_of s x).outcome ≡ Ok a
       → (bit_of a.lamps rearm_button ≡ true) ↔ ((a.cause ≡ 0 → ⊥) × Still s x)
   -- the cause told is the one that stands after the sample
-  pub cause_told : (a : Told) → (sample_of s x).outcome ≡ Answered a → (sample_of s x).session.desk.brake.cause ≡ a.cause
+  pub cause_told : (a : Told) → (sample_of s x).outcome ≡ Ok a → (sample_of s x).session.desk.brake.cause ≡ a.cause
 
 -- the session with another count
 abbrev pub with_count : ℕ → Session → Session
@@ -115,7 +113,7 @@ pub record Standing : Type 0 where
   -- 2. Refusal 11, a rearm that takes effect and lamp 10, each exactly when, of every session and every sample.
   pub standstill : (s : Session) (x : Sample) → StandstillLaws s x
   -- "Only rearm, lamp 10 and refusal 11 use it." (b6): a session with another count, where both accept the sample.
-  pub nothing_else : (s : Session) (n : ℕ) (x : Sample) (a b : Told) → (sample_of s x).outcome ≡ Answered a → (sample_of (with_count n s) x).outcome ≡ Answered b
+  pub nothing_else : (s : Session) (n : ℕ) (x : Sample) (a b : Told) → (sample_of s x).outcome ≡ Ok a → (sample_of (with_count n s) x).outcome ≡ Ok b
       → AlikeBut10 s (with_count n s) x a b
   -- 3. "every session we make is inside", the count included; one that is handed in with more is refused.
   pub count_inside : (card : Card) (train : ℕ) (s : Session) (xs : List Sample) → open_session card train ≡ given s
@@ -128,7 +126,7 @@ abbrev pub ride : List Sample → Answer (List Outcome)
 ride xs = run_from (open_session card_of_a 6) xs
 
 abbrev pub by : ℕ → Outcome
-by n = Refused (Number n)
+by n = Err (numbered_refusal n)
 
 -- 108 km/h, over S + 500: cause 5
 abbrev pub fast : Sample

@@ -10,7 +10,7 @@ use Rattle.signals.specs.MainControl.{main_of}
 use Rattle.signals.specs.declared.control.MainKind.TheVariants.{BeforeStop}
 use Rattle.desk.specs.State.{with_main, fresh_desk}
 use Rattle.session.specs.declared.Session.{Session}
-use Rattle.session.specs.declared.Outcome.{Outcome}
+use Rattle.session.specs.Session.{Outcome}
 use Rattle.session.specs.Session.{fresh_session, with_desk, open_session, sample_of}
 use Rattle.demands.specs.Runs.{run_from}
 use Rattle.demands.specs.Examples.{conv, times, end_of, answer, shows, card_of_a, card_of_a_with}

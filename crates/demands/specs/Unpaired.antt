@@ -1,10 +1,10 @@
 -- The sample as it was before document 02 g: documents 01 and 02 b, c and f with single limits alone, the card's version unknown to it. It stands here
 -- so that what cards of version 1 and 2 answer is said against it. What did not change is cited; what did is written as it was.
-use Rattle.std.specs.Prelude.{ℕ, ◌*◌, Bool, false, ◌&&◌, not, List, [], ◌∷◌, leb, ltb, eqb}
+use Rattle.leaf.specs.Answers.{numbered_refusal}
+use Rattle.std.specs.Prelude.{ℕ, ◌*◌, Bool, false, ◌&&◌, not, List, [], ◌∷◌, leb, ltb, eqb, Err}
 use Rattle.leaf.specs.Choosing.{pick}
 use Rattle.leaf.specs.Numbers.{bit_of}
 use Rattle.leaf.specs.Buttons.{crossing_button, limit_button, override_button, increase_button, hide_button, rearm_button}
-use Rattle.leaf.specs.declared.Refusal.TheVariants.{Number}
 use Rattle.card.specs.declared.Row.{Row}
 use Rattle.card.specs.declared.Settings.{Settings}
 use Rattle.card.specs.Card.{protects, zones, reminds, reads_in_bts_bit}
@@ -33,8 +33,7 @@ use Rattle.step.specs.Brake.{lowest, braked, lamps_of}
 use Rattle.step.specs.Step.{arose_of}
 use Rattle.session.specs.declared.Sample.{Sample}
 use Rattle.session.specs.declared.Session.{Session}
-use Rattle.session.specs.declared.Outcome.{Outcome}
-use Rattle.session.specs.declared.Outcome.TheVariants as outcome
+use Rattle.session.specs.Session.{Outcome}
 use Rattle.session.specs.declared.Sampled.{Sampled}
 use Rattle.session.specs.Types.{type_speed}
 use Rattle.session.specs.Session.{refused_by, carried, sampled_as}
@@ -132,7 +131,7 @@ step_of01 s top x d = judged_of01 s top x (moved_of01 s top x d).cause (moved_of
 unfoldable pub sample_of01 : Session → Sample → Sampled
 sample_of01 s x =
     pick (eqb (refused_by s x) 0) (sampled_as s (step_of01 s.card.settings (type_speed s.train * 100) (carried s x) s.desk))
-    (record { session = s; outcome = outcome.Refused (Number (refused_by s x)) })
+    (record { session = s; outcome = Err (numbered_refusal (refused_by s x)) })
 
 unfoldable pub outcomes01 : Session → List Sample → List Outcome
 outcomes01 s [] = []

@@ -7,9 +7,8 @@
 -- The look-up is defined in crate `step` (specs/Reason.antt), the brake's age in `desk` (specs/Brake.antt), what is told in `session` (specs/Why.antt).
 -- Here it is said what it comes to: the limits in plain facts (step_laws, specs/Reason.antt), the brake's age from the samples alone. (f1 to f9 are 02's
 -- readings.)
-use Rattle.std.specs.Prelude.{ℕ, min, ◌≤◌, ◌<◌, Bool, true, false, List, [], ◌∷◌, ◌++◌, ◌≡◌, length, take}
-use Rattle.leaf.specs.Answers.{Answer, given, refused, refused_at}
-use Rattle.leaf.specs.declared.Refusal.TheVariants.{Number}
+use Rattle.std.specs.Prelude.{ℕ, min, ◌≤◌, ◌<◌, Bool, true, false, List, [], ◌∷◌, ◌++◌, ◌≡◌, length, take, Ok, Err}
+use Rattle.leaf.specs.Answers.{Answer, given, refused, refused_at, numbered_refusal}
 use Rattle.card.specs.declared.Card.{Card}
 use Rattle.card.specs.Card.{Same}
 use Rattle.card.specs.Reading.{card_in}
@@ -20,14 +19,12 @@ use Rattle.step.specs.declared.speed.Reason.TheVariants as reason
 use Rattle.step.specs.Reason.{reason_number}
 use Rattle.session.specs.declared.Sample.{Sample}
 use Rattle.session.specs.declared.Session.{Session}
-use Rattle.session.specs.declared.Outcome.TheVariants as outcome
 use Rattle.session.specs.Session.{open_session, sample_of}
 use Rattle.session.specs.Runs.{after}
 use Rattle.step_laws.specs.Reason.{reason_place, Names}
 use Rattle.laws.specs.Unanswered.{top_of}
 use Rattle.session.specs.declared.Why.{Why}
-use Rattle.session.specs.declared.Told.{Told}
-use Rattle.session.specs.declared.Told.TheVariants.{Reasoned, Refused}
+use Rattle.session.specs.Why.{Told}
 use Rattle.session.specs.declared.Asked.{Asked}
 use Rattle.session.specs.Why.{why_now, asked_of}
 use Rattle.printed.specs.Printed.{printed_as}
@@ -61,9 +58,9 @@ pub record WhyMet (t : Session) (a : Answered) (w : Why) : Type 0 where
 -- "Refusals: as for the sample itself.": what is refused is the sample, by its numbers in their order, and the session is as it was; else the next
 -- session is beside answer and reason
 pub data AskedAs (s : Session) (x : Sample) : Asked → Type 0 where
-  refused_with : (n : ℕ) → SampledAs s x (refusal_by n s) → AskedAs s x (record { session = s; told = Refused (Number n) })
-  reasoned : (t : Session) (a : Answered) (w : Why) → SampledAs s x (record { session = t; outcome = outcome.Answered a }) → WhyMet t a w
-      → AskedAs s x (record { session = t; told = Reasoned (record { answer = a; why = w }) })
+  refused_with : (n : ℕ) → SampledAs s x (refusal_by n s) → AskedAs s x (record { session = s; told = Err (numbered_refusal n) })
+  reasoned : (t : Session) (a : Answered) (w : Why) → SampledAs s x (record { session = t; outcome = Ok a }) → WhyMet t a w
+      → AskedAs s x (record { session = t; told = Ok (record { answer = a; why = w }) })
 
 -- what is asked of a session and a sample
 abbrev pub Asker : Type 0
@@ -133,7 +130,7 @@ pub record WhyLaws : Type 0 where
   -- "every session we make is inside", the brake's age included; one that is handed in with more is refused.
   pub age_inside : (card : Card) (train : ℕ) (s : Session) (xs : List Sample) → open_session card train ≡ given s
       → (after s xs).desk.brake.age ≤ 30000
-  pub age_outside : (s : Session) (x : Sample) → 30000 < s.desk.brake.age → asked_of s x ≡ record { session = s; told = Refused (Number 8) }
+  pub age_outside : (s : Session) (x : Sample) → 30000 < s.desk.brake.age → asked_of s x ≡ record { session = s; told = Err (numbered_refusal 8) }
   -- 3. "Old bytes stay silent": two areas with the same speaking bytes are read as the same card (`silent_bytes`), so that the same is told, and print
   -- the same, with the reason as a fifth column too, and the same reasons in numbers and in words.
   pub silent_column : (form : Form) (a b recording : List ℕ) → SameSpeaking a b → printed_as form a recording ≡ printed_as form b recording
@@ -161,7 +158,7 @@ last_told (refused_at n place) = refused_at n place
 -- reason, S, its age, cause and how many samples ago; the answer's lamps, icon and limit
 abbrev pub because : Reason → ℕ → ℕ → ℕ → ℕ → ℕ → ℕ → Bool → Told
 because why speed age cause ago lamps icon limit =
-    Reasoned
+    Ok
     (record {
       answer = record { speed = speed; lamps = lamps; cause = cause; icon = icon; limit = limit };
       why = record { reason = why; speed = speed; age = age; cause = cause; since = ago };
@@ -215,4 +212,4 @@ pub record WhyExamples : Type 0 where
       ≡ given (because reason.Main 4000 0 4 0 1280 0 false ∷ because reason.Main 4000 1 4 1 3328 0 false ∷ [])
   -- "Refusals: as for the sample itself.": beacon 13 is 9, and the next sample finds the session as it was
   pub refused_between : told card_of_a 6 (conv 0 8 0 ∷ conv 0 13 0 ∷ conv 0 0 0 ∷ [])
-      ≡ given (because reason.Main 4000 0 4 0 1280 0 false ∷ Refused (Number 9) ∷ because reason.Main 4000 1 4 1 1280 0 false ∷ [])
+      ≡ given (because reason.Main 4000 0 4 0 1280 0 false ∷ Err (numbered_refusal 9) ∷ because reason.Main 4000 1 4 1 1280 0 false ∷ [])
