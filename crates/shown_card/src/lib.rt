@@ -184,7 +184,7 @@ fn put_settings(out: &mut [u8], at: usize, version: u8, s: Settings) -> usize
 // ---- what lies behind the record
 
 // A byte of a listing, a blank before it.
-#[tactic(auto, using(text::specs::Typing::then_typed))]
+#[tactic(auto, unfolding(text::specs::Typing::typed))]
 fn put_byte(out: &mut [u8], at: usize, byte: u8) -> usize
     ensures { (out.new, result) ≡ typed ((blank ∷ []) ++ hex_of byte) (out.old, at) }
 {
@@ -212,6 +212,7 @@ fn sixteen(area: &[u8], from: usize) -> &[u8]
 }
 
 // A line of them, the place of the first before it; none where the area ends before.
+#[tactic(auto, using(text::specs::Typing::then_typed), unfolding(crate::specs::Shown::hex_line, text::specs::Typing::typed))]
 fn put_line(out: &mut [u8], at: usize, area: &[u8], from: u32) -> usize
     ensures { (out.new, result) ≡ typed (hex_line area.now from) (out.old, at) }
 {
