@@ -4,32 +4,31 @@ use mathlib.Core.Path.{◌≡◌, refl, sym, ap, ◌∙◌, subst}
 use mathlib.Core.Logic.{inl, inr}
 use native.Mathlib.Nat.{eq-or-lt_of_le, le_of_suc-le-suc}
 use native.Mathlib.Omega.{arith}
-use mathlib.Core.Bool.{Bool, true, false, not, ◌&&◌, ◌||◌}
-use mathlib.Core.List.{List, [], ◌∷◌, ◌++◌, map}
+use mathlib.Core.Bool.{Bool, true, false, not, ◌&&◌}
+use mathlib.Core.List.{List, [], ◌∷◌, ◌++◌}
 use Prim.Native.Nat.{ℕ, zero, suc, ◌+◌, ◌%◌, ◌<◌, ◌≤◌}
 use native.Mathlib.Numerals.{add-one}
-use lib.ListN.{length, take, drop, set, drop_of_length-le, length-map}
-use lib.Seq.{drop-cons, take-suc-set, take_all}
-use lib.Dec.{T, leb, eqb}
+use lib.ListN.{length, take, set}
+use lib.Seq.{take-suc-set, take_all}
+use lib.Dec.{T, eqb}
 use lib.Ieee.{Float, nan, inf, fin, binary32, of_bits, of_int, nan_bits, is_nan, le, mul, div}
 use lib.Ieee.Bits.{nan_bits_above, nan_bits_is}
 use lib.Ieee.Fits.{and_i, and_l, and_r}
 use lib.Ieee.Scale.{finite}
 use borrow.Author.Tests.{le-ltb, lt-ltb, eq-eqb, ne_eqb}
-use Rattle.std.specs.Prelude.{Result, Ok, Err}
+use Rattle.std.specs.Prelude.{Ok, Err}
 use Rattle.std.specs.List.{list_any}
 use Rattle.std.proofs.lemmas.List.Folds.{list_any_more}
-use Rattle.leaf.specs.Answers.{Answer, given, refused, refused_at, refusal_of, on_paper, ensured}
+use Rattle.leaf.specs.Answers.{given, refused_at, refusal_of, on_paper, ensured}
 use Rattle.leaf.specs.declared.refusal.Refusal.{Refusal}
 use Rattle.leaf.specs.declared.refusal.Refusal.TheVariants.{AreaTooShort, NoSuchVersion, VersionTooNew, WrongLength, OutOfRange, NoSuchReader, WrongTrain, SessionOutOfRange, SampleOutOfRange, TooFast, ModeWhileMoving, BadSheet, NoRoom, BadRecording}
-use Rattle.leaf.specs.Bytes.{byte, word}
+use Rattle.leaf.specs.Bytes.{byte}
 use Rattle.leaf.specs.Choosing.{pick}
 use Rattle.leaf.specs.Checks.{Check, or_fault, first_bad}
 use Rattle.tone.specs.declared.ToneRow.{ToneRow}
 use Rattle.tone.specs.declared.Sheet.{Sheet}
-use Rattle.tone.specs.declared.Reading.TheVariants.{Beacon, Nothing}
 use Rattle.tone.specs.Facts.{Order}
-use Rattle.tone.specs.Tones.{VERSION, place_of, row_at, rows_of, sheet_of, khz, all_finite, in_order, row_ok, share, row_of, shares_earlier, good_at, checks_of, fault_of, in_row, reading_of, offset_from, read_from, no_row, whole_sheet, read_sheet, paper_of_sheet, beside_of, good_beside, bad_at, behind, sheet_read, read_under, classify_of}
+use Rattle.tone.specs.Tones.{VERSION, place_of, row_at, rows_of, sheet_of, khz, all_finite, in_order, row_ok, share, row_of, shares_earlier, good_at, checks_of, fault_of, read_from, no_row, whole_sheet, read_sheet, paper_of_sheet, beside_of, good_beside, bad_at, behind, sheet_read, read_under, classify_of}
 
 -- ---- bit patterns of an f32
 
@@ -152,6 +151,11 @@ pub in_order_ok : (r : ToneRow) → in_order r ≡ row_ok r
 unfolding row_ok
 in_order_ok r = absorb (all_finite r) (in_order r) (in_order_finite r)
 
+-- the same with the code's constants
+pub code_ok : (r : ToneRow)
+    → (le (of_bits binary32 0x4200_0000) r.low && le r.low r.centre && le r.centre r.high && le r.high (of_bits binary32 0x4300_0000) && le r.high (mul binary32 (of_bits binary32 0x4000_0000) r.low)) ≡ row_ok r
+code_ok r = simp (low_is, high_is, two_is) (in_order_ok r)
+
 -- ---- one row more, at the code's i + 1
 
 pub rows_more : (area : List ℕ) (rows : List ToneRow) (i : ℕ) (r : ToneRow) → i < length rows → take i rows ≡ rows_of area i → r ≡ row_at area (place_of i) → take (i + 1) (set rows i r) ≡ rows_of area (i + 1)
@@ -231,30 +235,7 @@ pub none_bad : (version : ℕ) (rows : List ToneRow) → fault_of version rows 1
 unfolding bad_at
 none_bad version rows e = rw e
 
--- what is read from row k on: row k, or what is read from k + 1 on, or nothing at the end
-module _ (rows : List ToneRow) (k : ℕ) (tone : Float) (h : k < length rows) where
-  pub read_more : read_from k (drop k rows) tone ≡ pick (in_row (row_of rows k) tone) (reading_of k (offset_from (row_of rows k) tone)) (read_from (k + 1) (drop (k + 1) rows) tone)
-  unfolding read_from
-  read_more = rw (drop-cons rows k no_row h, add-one)
-
-  pub read_found : in_row (row_of rows k) tone ≡ true → read_from k (drop k rows) tone ≡ reading_of k (offset_from (row_of rows k) tone)
-  read_found e = read_more ∙ rw e
-
-  pub read_passed : in_row (row_of rows k) tone ≡ false → read_from k (drop k rows) tone ≡ read_from (k + 1) (drop (k + 1) rows) tone
-  read_passed e = read_more ∙ rw e
-
-pub read_done : (rows : List ToneRow) (k : ℕ) (tone : Float) → length rows ≤ k → read_from k (drop k rows) tone ≡ Nothing
-unfolding read_from
-read_done rows k tone h = rw (drop_of_length-le rows h)
-
-pub later_beacon : (k : ℕ) (offset : Float) → (k ≡ 0 → ⊥) → Beacon k offset ≡ reading_of k offset
-later_beacon zero offset h = absurd (h refl)
-later_beacon (suc k) offset h = refl
-
 -- ---- the sheet of its rows
-
-pub length_mapped : {X Y : Type 0} (f : X → Y) (l : List X) (n : ℕ) → length (map f l) ≡ n → length l ≡ n
-length_mapped f l n e = sym (length-map l f) ∙ e
 
 pub sheet_all : (sheet : Sheet) (area : List ℕ) → length sheet.rows ≤ 12 → take 12 sheet.rows ≡ rows_of area 12 → sheet ≡ sheet_of area
 unfolding sheet_of

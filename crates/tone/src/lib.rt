@@ -77,11 +77,11 @@ impl ToneRow {
     fn is_ok(self) -> bool
         ensures { result ≡ row_ok self }
     {
-        (32.0 <= self.low)
-            & (self.low <= self.centre)
-            & (self.centre <= self.high)
-            & (self.high <= 128.0)
-            & (self.high <= 2.0 * self.low)
+        32.0 <= self.low
+            && self.low <= self.centre
+            && self.centre <= self.high
+            && self.high <= 128.0
+            && self.high <= 2.0 * self.low
     }
 
     // Does some tone lie in both rows, ends included.

@@ -1,5 +1,9 @@
-use Rattle.tone.proofs.Laws.{low_is, high_is, two_is, in_order_ok}
+use Rattle.std.proofs.Common.{rules}
+use Rattle.tone.proofs.Laws.{code_ok}
 use Rattle.tone.proofs.ToneRow.is_ok.Goals as goal
 
-pub returns : goal.returns
-returns c = simp (low_is, high_is, two_is) (in_order_ok _)
+pub returns-then-self-4 : goal.returns-then-self-4
+returns-then-self-4 c = rw (← code_ok c.args.self) (search rules)
+
+pub returns-else-self-4 : goal.returns-else-self-4
+returns-else-self-4 c = rw (← code_ok c.args.self) (search rules)
