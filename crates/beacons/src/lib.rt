@@ -33,7 +33,8 @@ fn is_side(code: u8) -> bool
     matches!(code, 4 | 9 | 10 | 11)
 }
 
-// The reminder of a stop: due where the beacon 8 was passed under override.
+// The reminder of a stop: due where the beacon 8 was passed under override. By `reminded_after`; a `From<bool>` would not say
+// which flag is meant.
 fn reminder_after(armed: bool) -> Reminder
     ensures { result ≡ reminded_after armed }
 {
@@ -59,6 +60,8 @@ fn displacing(window: Window, waits: Waits) -> Window
     Window::opened(waits, window.time_left(MISS_TIME))
 }
 
+// It and `open_side` store one member each, and a definition names each (`main_opened`, `side_opened`): what they share is
+// `displacing`.
 #[tactic(auto, unfolding(crate::specs::Beacons::main_opened))]
 fn open_main(d: Desk, waits: Waits) -> Desk
     ensures { result ≡ main_opened waits d }
@@ -168,7 +171,8 @@ fn read_single(d: Desk) -> Desk
 
 // ---- pairs of limit beacons
 
-// The speed of the pair that a 10 or 11 makes with its first, km/h.
+// The speed of the pair that a 10 or 11 makes with its first, km/h. Here and below the code is the sample's and the pairs are
+// the card's: a struct of both would be built for the call and taken apart in it.
 #[tactic(auto, unfolding(crate::specs::Beacons::speed_of_pair))]
 fn speed_of_pair(pairs: Pairs, first: First, code: u8) -> u8
     ensures { result ≡ speed_of_pair pairs first code }
@@ -244,7 +248,7 @@ fn read_paired(d: Desk, code: u8, pairs: Pairs) -> Desk
     }
 }
 
-// Beacons 10 and 11; there are pairs where the card has them.
+// Beacons 10 and 11; there are pairs where the card has them. Code and pairs are as in `speed_of_pair`, here and in the step.
 #[tactic(auto, unfolding(crate::specs::Beacons::reading_limit))]
 fn read_limit(d: Desk, code: u8, pairs: Option<Pairs>) -> Desk
     ensures paired { IfSome pairs (λ p. result ≡ reading_limit code true p d) }

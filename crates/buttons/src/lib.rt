@@ -81,7 +81,8 @@ fn is_free(d: Desk, weight: u16) -> bool
     !d.window.answers(weight) && !d.side.answers(weight)
 }
 
-// The paired limit of this speed goes; none where it is 0.
+// The paired limit of this speed goes; none where it is 0. The paired limit of this speed goes, none where it is 0: a number, as
+// `lowest_to_go` answers it.
 #[tactic(auto, unfolding(crate::specs::Buttons::paired_removed))]
 fn remove_paired(mut d: Desk, speed: u8) -> Desk
     ensures { result ≡ paired_removed speed d }
@@ -93,7 +94,8 @@ fn remove_paired(mut d: Desk, speed: u8) -> Desk
     d
 }
 
-// Is the single limit the lowest that may go; `speed` is that of the lowest paired one that may, 0 where none may.
+// Is the single limit the lowest that may go; `speed` is that of the lowest paired one that may, 0 where none may. That is a
+// number, as `lowest_to_go` answers it.
 #[tactic(auto, unfolding(crate::specs::Buttons::single_first))]
 fn single_first(d: Desk, bounds: Bounds, speed: u8) -> bool
     ensures { result ≡ single_first bounds.m bounds.row bounds.top speed d }

@@ -10,7 +10,8 @@ use crate::ranges::has_reminder;
 use crate::{Kind, Pairs, Row, Settings};
 use leaf::{byte_at, word_at};
 
-// The length of a record of this version.
+// The length of a record of this version. A version is a number, so this is no `From`. It is not public, and the
+// numbers are those of `Settings`: refused_card, which prints them, has a match of its own.
 pub fn length_of(version: u8) -> u16
     ensures { result ≡ length_of version }
 {
@@ -22,6 +23,8 @@ pub fn length_of(version: u8) -> u16
 }
 
 impl Kind {
+    // Here and in the two below an offset and no slice: readers of a fixed format behind the kind's first setting,
+    // total past the area's end (`byte`).
     fn byte_from(self, area: &[u8], offset: u8) -> u8
         ensures { result ≡ byte area.now (self.first + offset) }
     {
@@ -34,6 +37,7 @@ impl Kind {
         word_at(area, u32::from(self.first) + u32::from(offset))
     }
 
+    // `cases` has one of its own, since the reader hands out no settings that are out of range.
     #[tactic(auto, unfolding(crate::specs::Card::row_at))]
     fn row_from(self, area: &[u8], offset: u8) -> Row
         ensures { result ≡ row_at area.now (self.first + offset) }
@@ -109,7 +113,8 @@ impl Kind {
 }
 
 // The bytes of the longest record; those of a shorter one come first among them. They stand one by one, in the order of
-// `bytes_of`: a copy of each part into a zeroed array would say every place once more.
+// `bytes_of`: a copy of each part into a zeroed array would say every place once more. Version and settings one by one,
+// as `check` takes them.
 #[tactic(auto, unfolding(crate::specs::Writing::bytes_of))]
 pub fn encode(version: u8, s: Settings) -> [u8; 49]
     ensures { result ≡ bytes_of version s }

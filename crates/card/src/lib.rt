@@ -88,7 +88,8 @@ pub struct Settings {
     pub pairs: Pairs,
 }
 
-// A card: its version, and beside it what it says. Opening and desk go by both.
+// A card: its version, and beside it what it says. Opening and desk go by both. The version is a number: one that there is
+// not may be handed in, and is refused, 2 (`judge_card`, `write_card`).
 #[derive(Clone, Copy, Debug, PartialEq, Eq)]
 pub struct Card {
     pub version: u8,
@@ -131,6 +132,8 @@ pub fn functions_of(byte: u8) -> Functions
 // ---- the settings' check
 
 // Are the settings in range beside this version, as writer and opening ask; else the byte position of the first that is not.
+// Version and settings one by one, here and in the writer: the reader has them apart, and most of the tests take the
+// settings alone. A `Card` would be built for the call and taken apart here.
 #[tactic(auto, unfolding(crate::specs::Ranges::check_settings, crate::specs::Ranges::fault_of))]
 pub fn check(version: u8, s: Settings) -> Result<(), Refusal>
     ensures { checked_of result ≡ check_settings version s }
@@ -138,7 +141,7 @@ pub fn check(version: u8, s: Settings) -> Result<(), Refusal>
     Kind::BASE.check(version, s)
 }
 
-// The same, without the place of a fault.
+// The same, without the place of a fault. Version and settings as `check` takes them.
 #[tactic(auto, using(crate::proofs::InRange::base_placed, crate::proofs::InRange::inside_given), unfolding(crate::specs::Ranges::check_settings, crate::specs::Ranges::fault_of))]
 pub fn is_in_range(version: u8, s: Settings) -> bool
     ensures { result ≡ is_given (check_settings version s) }
@@ -163,7 +166,8 @@ pub fn version_of(area: &[u8]) -> u8
 }
 
 // The settings of the card in the area, for a reader that knows the versions up to highest. Nothing beyond the
-// record is looked at, nor are silent bytes.
+// record is looked at, nor are silent bytes. The bytes are lent and the highest version is the reader's own: a struct of
+// both would be built for this call alone.
 #[tactic(auto, using(crate::proofs::Checked::passed), unfolding(crate::specs::Reading::read_card, crate::specs::Reading::answer_by, leaf::specs::Checks::or_fault))]
 pub fn read(area: &[u8], highest: u8) -> Result<Settings, Refusal>
     ensures { paper_of result ≡ read_card area.now highest }
@@ -181,7 +185,8 @@ pub fn read(area: &[u8], highest: u8) -> Result<Settings, Refusal>
     Ok(settings)
 }
 
-// The card in the area: what the reader answers, with the version that the area states beside it.
+// The card in the area: what the reader answers, with the version that the area states beside it. Area and highest as `read`
+// takes them.
 #[tactic(auto, unfolding(crate::specs::Reading::card_in))]
 pub fn card_in(area: &[u8], highest: u8) -> Result<Card, Refusal>
     ensures { found_of result ≡ card_in area.now highest }
@@ -196,7 +201,7 @@ pub fn card_in(area: &[u8], highest: u8) -> Result<Card, Refusal>
 // ---- writing
 
 // Writes the settings' record of this version at the buffer's start. Beyond the record the buffer stays as it was;
-// where the answer is a refusal, all of it does.
+// where the answer is a refusal, all of it does. Version and settings as `check` takes them.
 #[tactic(auto, using(crate::proofs::Checked::passed), unfolding(crate::specs::Writing::write_card, crate::specs::Writing::record_of, crate::specs::Reading::answer_by, leaf::specs::Checks::or_fault))]
 pub fn write(version: u8, s: Settings, buf: &mut [u8]) -> Result<(), Refusal>
     ensures result_value { written_of result ≡ write_card version s (length buf.old) }

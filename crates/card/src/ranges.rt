@@ -17,6 +17,7 @@ pub fn has_reminder(functions: u8) -> bool
 
 // ---- the range of each setting
 
+// Of bytes, as `leaf::in_range` is of words: with that, every argument would have to be widened at each call.
 fn is_within(low: u8, high: u8, x: u8) -> bool
     ensures { result ≡ within low high x }
 {
@@ -30,7 +31,8 @@ fn ranged_if(on: bool, low: u16, high: u16, x: u16) -> bool
     if on { in_range(low, high, x) } else { x == 0 }
 }
 
-// One of the four speeds that a pair may give.
+// One of the four speeds that a pair may give. The four numbers are all that it says; sides, whose `FourLimits` has them as
+// fields, stands above this crate.
 fn is_pair_speed(speed: u8) -> bool
     ensures { result ≡ is_pair_speed speed }
 {
@@ -209,7 +211,8 @@ impl Kind {
         Ok(())
     }
 
-    // The first refusal of the settings, in the order of their places.
+    // The first refusal of the settings, in the order of their places. Version and settings one by one, here and in the two
+    // below: two of the eight tests ask for the version.
     #[tactic(auto, unfolding(crate::specs::Ranges::settings_refused))]
     fn first_refused(self, version: u8, s: Settings) -> Result<(), Refusal>
         ensures { result ≡ settings_refused self version s }

@@ -15,7 +15,8 @@ pub struct Turn {
     pub cause: u8,
 }
 
-// What a card says of the reminder: whether there is one, and X and Y of the second.
+// What a card says of the reminder: whether there is one, and X and Y of the second. A flag and no `Option`: where there is none, X and
+// Y still say when a second one is due (`reminded_of`).
 #[derive(Clone, Copy)]
 pub struct Reminders {
     pub on: bool,
@@ -23,7 +24,8 @@ pub struct Reminders {
     pub y: u16,
 }
 
-// The lowest of the causes that a miss gives: main window 1, side window 2, reminder 3.
+// The lowest of the causes that a miss gives: main window 1, side window 2, reminder 3. A number, 0 for none, by `miss_cause` of specs/,
+// as all causes are.
 fn miss_cause(main: bool, side: bool, reminder: bool) -> u8
     ensures { result ≡ miss_cause main side reminder }
 {
@@ -94,6 +96,8 @@ pub fn count_side(d: Desk) -> Desk
     }
 }
 
+// It and `miss_side` store one member each, and a definition names each (`main_missed`, `side_missed`): they have no more in common than
+// an `if`.
 #[tactic(auto, unfolding(crate::specs::Clock::main_missed))]
 fn miss_main(d: Desk, missed: bool) -> Desk
     ensures { result ≡ main_missed missed d }
@@ -122,7 +126,7 @@ fn miss_side(d: Desk, missed: bool) -> Desk
     }
 }
 
-// Both windows are judged before the reminder is, so that a miss hands down what was found.
+// Both windows are judged before the reminder is, so that a miss hands down what was found. Cause 0 is none, as `Turn` has it.
 #[tactic(auto, unfolding(crate::specs::Clock::advanced, crate::specs::Clock::main_missed, crate::specs::Clock::reminded, crate::specs::Clock::desk_older, signals::specs::Windows::missed_of, signals::specs::Stop::reminder_missed, crate::specs::Clock::side_missed))]
 fn advance(d: Desk, m: u32, reminders: Reminders) -> Turn
     ensures { result ≡ advanced m reminders.on reminders.x reminders.y d }

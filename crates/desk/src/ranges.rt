@@ -69,6 +69,7 @@ fn limit_inside(l: Limit) -> bool
     l.age <= AGE_TOP && l.steps <= STEPS_TOP
 }
 
+// By the names of the four, as `four_inside` of specs/ has them.
 fn four_inside(p: FourLimits) -> bool
     ensures { result ≡ four_inside p }
 {

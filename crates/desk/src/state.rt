@@ -38,7 +38,7 @@ impl Desk {
         self
     }
 
-    // An unprotected crossing is set, with the age and distance of its reading.
+    // An unprotected crossing is set, with the age and distance of its reading. Two arguments, as in `take_over`.
     #[tactic(auto, unfolding(crate::specs::State::crossing_set))]
     pub fn set_unprotected(mut self, age: u16, distance: u32) -> Desk
         ensures { result ≡ crossing_set age distance self }
@@ -90,7 +90,8 @@ impl Desk {
     }
 }
 
-// The main control that a mode change leaves: none in BTS, start in CONV.
+// The main control that a mode change leaves: none in BTS, start in CONV. By `resting_of`; a `From<bool>` would not say which flag is
+// meant.
 fn resting(bts: bool) -> Main
     ensures { result ≡ resting_of bts }
 {

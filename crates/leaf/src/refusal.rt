@@ -36,7 +36,7 @@ pub enum Refusal {
 }
 
 impl Refusal {
-    // The number on paper.
+    // The number on paper. By a match, since two cases have a place beside them, so that it is no cast (`number_of`).
     pub fn number(self) -> u8
         ensures { result ≡ number_of self }
     {

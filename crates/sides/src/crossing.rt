@@ -8,6 +8,7 @@ const CROSSING_END: u32 = 18_000_000;
 // The icon of a protected crossing shows 35 m after beacon 4.
 const ICON_DISTANCE: u32 = 350_000;
 
+// `Absent` is one of the kinds: age and distance stand beside it too (see `Crossing`).
 #[derive(Clone, Copy, PartialEq, Eq)]
 pub enum CrossingKind {
     Absent,
@@ -81,7 +82,8 @@ impl Crossing {
         }
     }
 
-    // An unprotected crossing is set; it takes over a protected one, and a repeat restarts only the distance.
+    // An unprotected crossing is set; it takes over a protected one, and a repeat restarts only the distance. Age and distance one by one,
+    // here and in `set_protected`: a window has them as two members, and specs/ takes them so (`unprotected_set`).
     #[tactic(auto, unfolding(crate::specs::Crossing::unprotected_set))]
     pub fn set_unprotected(self, age: u16, distance: u32) -> Crossing
         ensures { result ≡ unprotected_set age distance self }
@@ -140,7 +142,8 @@ impl Crossing {
         }
     }
 
-    // Hundredths of km/h of a standing crossing: `row` is what row 5 gives at its age, `top` is T.
+    // Hundredths of km/h of a standing crossing: `row` is what row 5 gives at its age, `top` is T. The one is reckoned for this call and the
+    // other is the train type's: a struct of both would be taken apart at once.
     pub fn speed(self, row: u32, top: u32) -> u32
         ensures { result ≡ crossing_speed self.kind row top }
     {
@@ -151,7 +154,7 @@ impl Crossing {
         }
     }
 
-    // 0 none, 1 protected, 2 unprotected.
+    // 0 none, 1 protected, 2 unprotected. The number of the answer, by `icon_of`.
     #[tactic(auto, unfolding(crate::specs::Crossing::icon_of))]
     pub fn icon(self) -> u8
         ensures { result ≡ icon_of self }

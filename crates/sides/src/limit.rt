@@ -56,7 +56,8 @@ impl Limit {
         }
     }
 
-    // Hundredths of km/h: `row` is what row 6 gives at its age, `last` the row's final, `top` is T.
+    // Hundredths of km/h: `row` is what row 6 gives at its age, `last` the row's final, `top` is T. Here and below each function takes its own
+    // part of m, row, final and T, as its definition does; where all of them go on together buttons has a struct, `Bounds`.
     #[tactic(auto, unfolding(crate::specs::Limit::limit_speed))]
     pub fn speed(self, row: u32, last: u8, top: u32) -> u32
         ensures { result ≡ limit_speed row last top self }

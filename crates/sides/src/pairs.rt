@@ -2,6 +2,7 @@
 ghost use Rattle.std.specs.Prelude.{◌≡◌};
 ghost use Rattle.sides.specs.Pairs.{no_first, is_first, is_eleven, first_kind, first_read, first_older, is_second, no_paired, paired_now, paired_older, paired_speed, paired_goes, none_of_four, paired_at, four_with, four_older, any_paired, lowest_to_go, nothing_paired, all_older};
 
+// `Absent` is one of the kinds: a distance stands beside it too (see `First`).
 #[derive(Clone, Copy, PartialEq, Eq)]
 pub enum FirstKind {
     Absent,
@@ -42,6 +43,7 @@ pub struct Paired {
     pub limits: FourLimits,
 }
 
+// Which of the two it is, by `first_kind` of specs/; a `From<bool>` would not say which flag is meant.
 fn first_kind(eleven: bool) -> FirstKind
     ensures { result ≡ first_kind eleven }
 {
@@ -147,7 +149,8 @@ impl PairedLimit {
         }
     }
 
-    // May button 6 take it off, at m mm/s, where it is the one of this speed.
+    // May button 6 take it off, at m mm/s, where it is the one of this speed. m and T are the sample's and the train type's, the speed is
+    // whose limit this is: a struct of them would be built for the call alone.
     #[tactic(auto, unfolding(crate::specs::Pairs::paired_goes))]
     pub fn may_go(self, m: u32, top: u32, speed: u8) -> bool
         ensures { result ≡ paired_goes m top speed self }
@@ -160,6 +163,7 @@ impl FourLimits {
     // Their speeds in km/h, lowest first.
     pub const SPEEDS: [u8; 4] = [30, 40, 50, 70];
 
+    // Here and below each of the four stands by its name, as in the definitions: an array would want an index for each speed.
     pub fn none() -> FourLimits
         ensures { result ≡ none_of_four }
     {
@@ -171,7 +175,7 @@ impl FourLimits {
         }
     }
 
-    // The one of this speed, km/h.
+    // The one of this speed, km/h. A speed is a number, and this is total on each of them (`paired_at`).
     pub fn at(self, speed: u8) -> PairedLimit
         ensures { result ≡ paired_at speed self }
     {
@@ -219,7 +223,7 @@ impl FourLimits {
     }
 
     // The speed of the lowest that may go at m mm/s, 0 where none may: a number and no `Option`, as the definition of this name, which
-    // those of buttons and lamps cite. Where none of the four stands, as in most samples, no speed is tried.
+    // those of buttons and lamps cite. Where none of the four stands, as in most samples, no speed is tried. m and T as `may_go` takes them.
     #[tactic(auto, unfolding(crate::specs::Pairs::lowest_to_go), using(crate::specs::Laws::none_goes, crate::proofs::Lowest::found_here, crate::proofs::Lowest::found_behind))]
     pub fn lowest_to_go(self, m: u32, top: u32) -> u8
         ensures { result ≡ lowest_to_go m top self }

@@ -5,7 +5,7 @@ ghost use Rattle.signals.specs.MainControl.{main_of, main_older, is_stop, is_bef
 // The stop zone is for under 80 m.
 const ZONE_DISTANCE: u32 = 800_000;
 
-// `Clear` is no main limit: after beacon 3, and in BTS.
+// `Clear` is no main limit: after beacon 3, and in BTS. It is one of the kinds: age and distance stand beside it too (see `Main`).
 #[derive(Clone, Copy, PartialEq, Eq)]
 pub enum MainKind {
     Clear,
@@ -30,7 +30,7 @@ pub struct Main {
 }
 
 impl Main {
-    // A main control with the age and distance of its reading.
+    // A main control with the age and distance of its reading. One by one, as a window has them, and as `main_of` takes them.
     pub fn new(kind: MainKind, age: u16, distance: u32) -> Main
         ensures { result ≡ main_of kind age distance }
     {

@@ -19,7 +19,8 @@ pub struct Override {
     pub age: u16,
 }
 
-// `Due`: the stop of a beacon 8 passed under override, not yet 200 m back. `Pressed`: the first was answered.
+// `Due`: the stop of a beacon 8 passed under override, not yet 200 m back. `Pressed`: the first was answered. `Off` is one of the phases:
+// numbers stand beside it too (see `Reminder`).
 #[derive(Clone, Copy, PartialEq, Eq)]
 pub enum Phase {
     Off,
@@ -193,7 +194,8 @@ impl Reminder {
         self.is_due() && main.is_stop() && 2_000_000 <= main.distance
     }
 
-    // The second reminder's rule: X samples (X/2 where the stop is increased) or Y metres since the press.
+    // The second reminder's rule: X samples (X/2 where the stop is increased) or Y metres since the press. X and Y one by one, here and in
+    // `reminded`: desk has them in a struct, `Reminders`, and stands above this crate.
     #[tactic(auto, unfolding(crate::specs::Stop::second_met))]
     fn second_met(self, increased: bool, x: u16, y: u16) -> bool
         ensures { result ≡ second_met increased x y self }

@@ -13,7 +13,8 @@ pub const ZONE_MISS: u16 = 40;
 // It is lit, and can be pressed, from this age.
 const ZONE_PRESS: u16 = 10;
 
-// Which reading waits. `Zone` is the window of the stop zone, `Limit` that of beacons 10 and 11.
+// Which reading waits. `Zone` is the window of the stop zone, `Limit` that of beacons 10 and 11. `Nothing` is one of them: numbers stand
+// beside it too (see `Window`).
 #[derive(Clone, Copy, PartialEq, Eq)]
 pub enum Waits {
     Nothing,

@@ -33,6 +33,8 @@ pub struct Sheet {
 }
 
 // What a tone reads as: a beacon's number with the offset from its row's centre, the permanent tone with its offset.
+// Numbers and offsets, as document 01 has the answer; `Nothing` is one of the readings, with a code of its own
+// (`code_of`), and no want of one.
 #[derive(Clone, Copy)]
 pub enum Reading {
     Beacon(u8, f32),
@@ -61,6 +63,8 @@ fn place_of(k: usize) -> u8
     3 + 12 * (k as u8)
 }
 
+// A row at a place: a reader of a fixed format, total past the area's end (`long`). shown_tones has one of its own, of a
+// row's number.
 fn row_at(area: &[u8], at: u32) -> ToneRow
     requires { at ≤ 255 }
     ensures { result ≡ row_at area.now at }
@@ -74,6 +78,7 @@ fn row_at(area: &[u8], at: u32) -> ToneRow
 
 impl ToneRow {
     // What a row needs by itself. A NaN fails every comparison and an infinity one of the ends, so all three are finite.
+    // One answer; shown_tones asks test by test, to say which of them fails.
     fn is_ok(self) -> bool
         ensures { result ≡ row_ok self }
     {
@@ -84,7 +89,8 @@ impl ToneRow {
             && self.high <= 2.0 * self.low
     }
 
-    // Does some tone lie in both rows, ends included.
+    // Does some tone lie in both rows, ends included. shown_tones has it too, to name the earlier row: it is not public
+    // here.
     fn shares(self, other: ToneRow) -> bool
         ensures { result ≡ share self other }
     {
@@ -189,7 +195,8 @@ pub fn read_sheet(area: &[u8]) -> Result<Sheet, Refusal>
 
 // ---- the classifier
 
-// What row k reads as with the offset: row 0 is the permanent tone's, row k beacon k's.
+// What row k reads as with the offset: row 0 is the permanent tone's, row k beacon k's. k is a row's place in the sheet,
+// as `reading_of` of specs/ has it.
 fn reading_of(k: u8, offset: f32) -> Reading
     ensures { result ≡ reading_of k offset }
 {
@@ -210,7 +217,8 @@ pub fn classify(area: &[u8], tone: f32) -> Result<Reading, Refusal>
 }
 
 impl Reading {
-    // The ride's beacon code: the beacon's number, 0 for the permanent tone, that of a quiet pickup for nothing.
+    // The ride's beacon code: the beacon's number, 0 for the permanent tone, that of a quiet pickup for nothing. A
+    // number: the ride's beacon code is one (`code_of`).
     pub fn code(self) -> u8
         ensures { result ≡ code_of self }
     {
