@@ -51,6 +51,7 @@ pub struct Received {
 
 // ---- a pair of bytes, the high one first
 
+// Here and in `low_in` the byte that has come, by their definitions: `from_be_bytes` wants both.
 fn high_in(b: u8) -> u16
     ensures { result ≡ high_in b }
 {
@@ -178,7 +179,7 @@ impl Receiver {
         Ok(Receiver::fresh(card))
     }
 
-    // The status changed, all else as it was.
+    // The status changed, all else as it was. By `with_status` of specs/.
     fn with_status(self, status: Status) -> Receiver
         ensures { result ≡ with_status status self }
     {
@@ -209,7 +210,9 @@ impl Receiver {
         }
     }
 
-    // It counts as taken; the session and the part of a sample after it. The status stays: the end is the sender's to announce.
+    // It counts as taken; the session and the part of a sample after it. The status stays: the end is the sender's to announce. That one
+    // more byte can be counted is a `requires` of the inner functions from here to `take_sample`, and no invariant of the type: `take` is
+    // promised of every receiver handed in.
     fn past(self, session: Session, part: Sample) -> Receiver
         requires { self.taken < 65535 }
         ensures { result ≡ counted_in (with_part part (with_session session self)) }
@@ -257,7 +260,7 @@ impl Receiver {
 
     // ---- the samples
 
-    // A sample is complete and has been run.
+    // A sample is complete and has been run. `ended` is a number, 0 for none, as `Ride` says.
     #[tactic(auto, unfolding(crate::specs::Receiver::completed_by))]
     fn complete(self, turned: Turned) -> Received
         requires { self.taken < 65535 }

@@ -35,7 +35,8 @@ pub fn is_good(recording: &[u8]) -> bool
         && byte_at(recording, 4) == 1
 }
 
-// The sample that k samples stand before. Past the recording's end a byte reads as 0.
+// The sample that k samples stand before. Past the recording's end a byte reads as 0. By `sample_at` of specs/; cost,
+// which stands on no rides, and why_cases, which has a sample's six bytes alone, have their own.
 pub fn sample_at(recording: &[u8], k: u16) -> Sample
     ensures { result ≡ sample_at recording.now k }
 {

@@ -11,6 +11,7 @@ use step::Answer;
 
 // How a replay ended: unrefused, its quota or the recording used up; by the number that refuses recording or session; or by
 // the number that refuses a sample, and how many samples of the recording stand before that one. Numbers, since a ride's end is one.
+// `end_at` gives it that of any ride.
 #[derive(Clone, Copy)]
 pub enum End {
     Unrefused,
@@ -27,14 +28,14 @@ pub struct Replayed {
     pub end: End,
 }
 
-// A sample that is answered is one step.
+// A sample that is answered is one step. By `step_of` of specs/; a `From<Shown>` would not say what it counts.
 fn step_of(shown: Shown) -> u16
     ensures { result ≡ step_of shown }
 {
     u16::from(matches!(shown, Shown::Answered(_)))
 }
 
-// The answer that was last, and what is shown behind it.
+// The answer that was last, and what is shown behind it. By `later_of`: `Shown` is no `Option`.
 fn later(before: Option<Answer>, shown: Shown) -> Option<Answer>
     ensures { result ≡ later_of before shown }
 {
@@ -64,7 +65,7 @@ fn unrun(why: Refusal, session: Session) -> Replayed
     }
 }
 
-// Unrefused, or the number that ended the ride at this position.
+// Unrefused, or the number that ended the ride at this position. 0 is none, by `end_at` of specs/.
 fn end_at(ended: u8, position: u16) -> End
     ensures { result ≡ end_at ended position }
 {
@@ -75,7 +76,8 @@ fn end_at(ended: u8, position: u16) -> End
     }
 }
 
-// What a ride has come to, of which so many samples ran from a place on.
+// What a ride has come to, of which so many samples ran from a place on. Place and count one by one, as `so_far` of specs/ takes
+// them: the struct of what it gives is `Replayed`.
 fn so_far(ride: Ride, last: Option<Answer>, place: u16, ran: u16) -> Replayed
     requires { place + ran ≤ 65535 }
     ensures { result ≡ so_far ride last place ran }
@@ -88,7 +90,8 @@ fn so_far(ride: Ride, last: Option<Answer>, place: u16, ran: u16) -> Replayed
     }
 }
 
-// n samples from a place on, up to the first of them that is refused.
+// n samples from a place on, up to the first of them that is refused. `ended` is a number, 0 for none (`Ride`). Recording, place,
+// session and n are what `ran_from` takes: a struct of them would be built for the one call.
 fn run(recording: &[u8], place: u16, session: Session, n: u16) -> Replayed
     requires { place + n ≤ 65535 }
     ensures { result ≡ ran_from session recording.now place n }
@@ -112,7 +115,7 @@ fn run(recording: &[u8], place: u16, session: Session, n: u16) -> Replayed
 // the quota and the recording have, past whose end none are left, or those before the first that is refused. Place and quota
 // may be any numbers. Refused are a bad recording, 14, and a session out of its ranges, 8, even where no sample would run;
 // then a sample, with its number and position. The train type is the session's; the recording's is not looked at. Nothing before
-// the place is read but the recording's head.
+// the place is read but the recording's head. The four are what document 02 d) hands in, and what `replay_of` takes.
 #[tactic(auto, using(crate::proofs::Replays::not_run, crate::proofs::Replays::judged_run))]
 pub fn replay(recording: &[u8], place: u64, session: Session, quota: u64) -> Replayed
     ensures { result ≡ replay_of recording.now place session quota }

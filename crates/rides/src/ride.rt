@@ -95,7 +95,7 @@ impl Ride {
         Ride { session, ended: 0 }
     }
 
-    // One more sample, and why. A ride that has ended stays as it is.
+    // One more sample, and why. A ride that has ended stays as it is. `ended` is a number, 0 for none, as `Ride` says.
     #[tactic(auto, using(crate::proofs::Whys::asked_going))]
     pub fn turn_asking(self, x: Sample) -> Explained
         ensures { result ≡ explained_of self x }

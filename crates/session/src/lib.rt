@@ -18,7 +18,8 @@ use leaf::{BUTTONS_TOP, CODE_TOP, Refusal, ensure};
 use step::speed::{Reason, Standing, reason_at};
 use step::{Answer, Input, step};
 
-// What comes every 100 ms: odometer pulses, the beacon's code, the buttons newly pressed, the mode.
+// What comes every 100 ms: odometer pulses, the beacon's code, the buttons newly pressed, the mode. The mode is a number: every other than 1
+// and 2 may come, and is refused, 9 (`codes_fit`).
 #[derive(Clone, Copy)]
 pub struct Sample {
     pub pulses: u16,
@@ -36,7 +37,8 @@ impl Sample {
     }
 }
 
-// The card is what was handed in at the opening, its version and settings.
+// The card is what was handed in at the opening, its version and settings. The train type is a number: a session with any may be handed in,
+// and is refused, 8, where there is none such (`inside_of`).
 #[derive(Clone, Copy)]
 pub struct Session {
     pub card: Card,
@@ -52,7 +54,8 @@ pub struct Sampled {
 }
 
 // Why S is what it is: the value, hundredths of km/h, and age of the limit that sets it; the cause that stands (0: the brake is off), and how
-// many samples ago the brake came on; and which limit it is, last in memory, where a ride that prints no reason pays least.
+// many samples ago the brake came on; and which limit it is, last in memory, where a ride that prints no reason pays least. The cause is the
+// brake's number.
 #[derive(Clone, Copy)]
 pub struct Why {
     pub speed: u32,
@@ -90,7 +93,7 @@ fn why_from(named: Standing, brake: Brake) -> Why
 }
 
 impl Asked {
-    // What is told, without the reason.
+    // What is told, without the reason. Of another type, so by no struct update (`sampled_from`).
     fn answered(self) -> Sampled
         ensures { result ≡ sampled_from self.session self.told }
     {
@@ -101,7 +104,8 @@ impl Asked {
     }
 }
 
-// T of a train type, km/h; 0 where there is no such type.
+// T of a train type, km/h; 0 where there is no such type. A number, by `type_speed` of specs/, which cannot fail and which all that goes by T
+// reckons with.
 #[tactic(auto, unfolding(crate::specs::Types::type_speed))]
 pub fn type_speed(train: u8) -> u8
     ensures { result ≡ type_speed train }

@@ -20,7 +20,8 @@ pub fn lowest(a: u8, b: u8) -> u8
     }
 }
 
-// The cause that stands after a sample in which `arose` is the lowest that arose (0: none).
+// The cause that stands after a sample in which `arose` is the lowest that arose (0: none). Numbers, as in `lowest`, by `standing_cause` of
+// specs/.
 #[tactic(auto, unfolding(crate::specs::Brake::standing_cause))]
 fn standing_cause(before: u8, arose: u8, rearm: bool) -> u8
     ensures { result ≡ standing_cause before arose rearm }
@@ -38,7 +39,7 @@ fn lamp_if(lit: bool, weight: u16) -> u16
     if lit { weight } else { 0 }
 }
 
-// The brake's step: rearm says that a sample at standstill carries it.
+// The brake's step: rearm says that a sample at standstill carries it. Cause 0 is none (`stays_on`).
 #[tactic(auto, unfolding(crate::specs::Brake::braked))]
 pub fn put_brake(d: Desk, arose: u8, rearm: bool, pulses: u16) -> Desk
     ensures { result ≡ braked arose rearm pulses d }
@@ -59,7 +60,7 @@ fn window_lamps(d: Desk) -> u16
     d.window.waits_for() | (d.side.waits_for() | lamp_if(d.option.on, button::CROSSING))
 }
 
-// Override armed or reminded, increase for stop, and rearm.
+// Override armed or reminded, increase for stop, and rearm. Cause 0 is none (`control_lamps` of specs/).
 #[tactic(auto, unfolding(crate::specs::Brake::control_lamps))]
 fn control_lamps(d: Desk, still: bool) -> u16
     ensures { result ≡ control_lamps still d }

@@ -88,7 +88,8 @@ fn moved(d: Desk, card: Card, top: u32, x: Input) -> Turn
     }
 }
 
-// May a limit go at m mm/s, the single one or a paired one; `last` is row 6's final.
+// May a limit go at m mm/s, the single one or a paired one; `last` is row 6's final. m and T one by one, here and in `answer_at`, as the
+// definitions take them: a struct of them would be built for the one call of each.
 #[tactic(auto, unfolding(crate::specs::Step::limit_goes))]
 fn limit_goes(d: Desk, m: u32, last: u8, top: u32) -> bool
     ensures { result ≡ limit_goes m last top d }
@@ -110,7 +111,8 @@ fn answer_at(d: Desk, settings: Settings, top: u32, m: u32, still: bool, speed: 
     }
 }
 
-// The lowest cause of a sample: of those that arose in the steps before it, too fast, and a quiet pickup outside BTS.
+// The lowest cause of a sample: of those that arose in the steps before it, too fast, and a quiet pickup outside BTS. Causes are numbers, 0 for
+// none, as in `lowest` and `arose_of`.
 #[tactic(auto, unfolding(crate::specs::Step::arose_of, crate::specs::Brake::lowest))]
 fn arose_at(x: Input, cause: u8, speed: u32) -> u8
     ensures { result ≡ arose_of cause x.m speed x.beacon x.bts }

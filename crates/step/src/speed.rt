@@ -16,7 +16,8 @@ use signals::control::{Main, MainKind};
 use signals::stop::{Alongside, stop_speed};
 
 // Which limit it is, in the order in which equal ones are named: vmax, T of the train type, BTS speed, the main control, the stop that stays
-// alongside, the crossing, the limit, a paired limit.
+// alongside, the crossing, the limit, a paired limit. `None` is the reason of a limit that does not stand (`none` of specs/), and of a turn
+// that shows no answer (`no_why`).
 #[derive(Clone, Copy)]
 pub enum Reason {
     None,
@@ -160,6 +161,8 @@ fn alongside_limit(alongside: Alongside, top: u32) -> Standing
     }
 }
 
+// Here and in `limit_limit` the row is a setting and T the train type's, each an argument of the definition: a struct of both would be built
+// for the call.
 #[tactic(auto, unfolding(crate::specs::Speed::crossing_limit))]
 fn crossing_limit(crossing: Crossing, row: Row, top: u32) -> Standing
     ensures { result ≡ crossing_limit row top crossing }
