@@ -38,6 +38,7 @@ pub enum Form {
     Reasons,
 }
 
+// A match on the columns, here and in `put_answer`: the definitions have a case for each (`heading`, `columns_of`).
 pub fn put_heading(columns: Columns, out: &mut [u8], at: usize) -> usize
     ensures { (out.new, result) ≡ typed (heading columns) (out.old, at) }
 {
@@ -47,6 +48,7 @@ pub fn put_heading(columns: Columns, out: &mut [u8], at: usize) -> usize
     }
 }
 
+// A match on the form, here and in `put_turned`: the definitions have a case for each (`heading_of`, `turn_text`).
 fn put_form_heading(form: Form, out: &mut [u8], at: usize) -> usize
     ensures { (out.new, result) ≡ typed (heading_of form) (out.old, at) }
 {
@@ -63,6 +65,7 @@ pub fn put_refused(out: &mut [u8], at: usize, number: u8) -> usize
     put_ended(out, at, number.into(), b'\n')
 }
 
+// case_lines has one without a number before and with all columns, as the case programs write it.
 #[tactic(auto, using(text::specs::Typing::then_typed))]
 fn put_answer(columns: Columns, out: &mut [u8], at: usize, number: u32, a: Answer) -> usize
     ensures { (out.new, result) ≡ typed (line number (columns_of columns a)) (out.old, at) }
@@ -80,6 +83,7 @@ fn put_answer(columns: Columns, out: &mut [u8], at: usize, number: u32, a: Answe
     }
 }
 
+// It and `put_reasoned` are alike but for what is typed of an answer, which a definition of each says (`shown_text`, `reason_text`).
 #[tactic(auto, unfolding(crate::specs::Printed::shown_text, text::specs::Typing::typed))]
 pub fn put_shown(columns: Columns, out: &mut [u8], at: usize, number: u32, shown: Shown) -> usize
     ensures { (out.new, result) ≡ typed (shown_text columns number shown) (out.old, at) }
@@ -147,6 +151,8 @@ fn put_lines(form: Form, ride: Ride, recording: &[u8], n: u16, out: &mut [u8], a
     place
 }
 
+// Here and in `put_ride` as in printed_why, with other lines below: one for both would take the lines as a closure and their text as an
+// argument of its contract.
 fn put_started(
     form: Form,
     opened: Result<Session, Refusal>,

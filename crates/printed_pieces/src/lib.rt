@@ -12,7 +12,8 @@ use leaf::Refusal;
 use printed::{Columns, HIGHEST, put_heading, put_refused, put_shown};
 use receiver::Receiver;
 
-// What starting gives, and how many bytes of its text stand in the buffer.
+// What starting gives, and how many bytes of its text stand in the buffer. printed_replay's has a session in the receiver's
+// place: the length alone is what both have.
 #[derive(Clone, Copy)]
 pub struct Begun {
     pub started: Result<Receiver, Refusal>,
@@ -28,6 +29,7 @@ fn start_on(card: &[u8]) -> Result<Receiver, Refusal>
     Receiver::start(read)
 }
 
+// printed_replay has it of a session: what both have in common is `put_refused`.
 fn put_begun(started: Result<Receiver, Refusal>, out: &mut [u8], at: usize) -> usize
     ensures { (out.new, result) ≡ typed (begun_text (started_of started)) (out.old, at) }
 {
@@ -59,13 +61,15 @@ pub fn print_start(columns: Columns, card: &[u8], out: &mut [u8]) -> Begun
     put_start(columns, card, out, 0)
 }
 
-// The receiver after a piece or an end, and how many bytes of the text stand in the buffer.
+// The receiver after a piece or an end, and how many bytes of the text stand in the buffer. printed_replay's says where a quota
+// ended: the length alone is what both have.
 #[derive(Clone, Copy)]
 pub struct Printed {
     pub receiver: Receiver,
     pub length: usize,
 }
 
+// The step takes a byte, those of the other printers a sample: what goes from step to step is each one's own.
 #[tactic(auto, unfolding(crate::specs::Pieces::piece_text, receiver::specs::Receiver::received_all, text::specs::Typing::typed))]
 fn put_piece(
     columns: Columns,

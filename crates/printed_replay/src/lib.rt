@@ -38,13 +38,15 @@ pub fn print_heading(out: &mut [u8]) -> usize
     put_heading(out, 0)
 }
 
-// What starting gives, and how many bytes of its text stand in the buffer.
+// What starting gives, and how many bytes of its text stand in the buffer. printed_pieces' has a receiver in the session's place:
+// the length alone is what both have.
 #[derive(Clone, Copy)]
 pub struct Begun {
     pub opened: Result<Session, Refusal>,
     pub length: usize,
 }
 
+// printed_pieces has it of a receiver: what both have in common is `put_refused`.
 fn put_begun(opened: Result<Session, Refusal>, out: &mut [u8], at: usize) -> usize
     ensures { (out.new, result) ≡ typed (begun_text (opened_of opened)) (out.old, at) }
 {
@@ -130,7 +132,8 @@ fn put_replayed(
 }
 
 // The session after a quota, the place where it ended, whether it was refused, and how many bytes of its text stand in the
-// buffer.
+// buffer. A flag and no `Option`: session and place are promised where it was refused too. Of printed_pieces' it has the length
+// alone.
 #[derive(Clone, Copy)]
 pub struct Printed {
     pub session: Session,
@@ -196,7 +199,7 @@ fn next_quota(n: u64, digit: u8) -> u64
 
 // The quota that a word says: a decimal number in digits alone, of any size. Zeros before it count for nothing; one above
 // 18446744073709551615 counts as that one, which is the same quota, since no recording has as many samples. An empty word, or
-// one with any other byte, says none.
+// one with any other byte, says none. `hex_digit` answers a number, which says by one comparison what is no decimal digit.
 pub fn quota_in(word: &[u8]) -> Option<u64>
     ensures { result ≡ quota_in word.now }
 {

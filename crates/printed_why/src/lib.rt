@@ -29,6 +29,7 @@ pub enum Telling {
 
 // ---- a sample
 
+// A match on the telling, here and in `put_told`: the definitions have a case for each (`why_heading`, `telling_text`).
 fn put_why_heading(telling: Telling, out: &mut [u8], at: usize) -> usize
     ensures { (out.new, result) ≡ typed (why_heading telling) (out.old, at) }
 {
@@ -102,6 +103,8 @@ fn put_lines(
     place
 }
 
+// Here and in `put_ride` as in printed, with other lines below: one for both would take the lines as a closure and their text as an argument of
+// its contract.
 fn put_started(
     telling: Telling,
     opened: Result<Session, Refusal>,

@@ -42,6 +42,7 @@ fn put_fall(out: &mut [u8], at: usize, row: Row) -> usize
     put_text(out, at, b" km/h a sample\n")
 }
 
+// Here and in `put_rows` by names and units; `cases` writes the numbers alone.
 fn put_row(out: &mut [u8], at: usize, k: u32, row: Row) -> usize
     ensures { (out.new, result) ≡ typed (row_text k row) (out.old, at) }
 {
@@ -192,6 +193,7 @@ fn put_byte(out: &mut [u8], at: usize, byte: u8) -> usize
     put_hex(out, at, byte)
 }
 
+// Each byte in digits, where text's `put_text` has it as it stands: the step is all that there is.
 fn put_bytes(out: &mut [u8], at: usize, bytes: &[u8]) -> usize
     ensures { (out.new, result) ≡ typed (hex_bytes bytes.now) (out.old, at) }
 {
@@ -225,7 +227,8 @@ fn put_line(out: &mut [u8], at: usize, area: &[u8], from: u32) -> usize
     at
 }
 
-// Four lines: the first 64 bytes from a place on.
+// Four lines: the first 64 bytes from a place on. Each with a line of its own here, as `hex_lines` has them: a loop over
+// four would say no less.
 #[tactic(auto, using(text::specs::Typing::then_typed), unfolding(crate::specs::Shown::hex_lines))]
 fn put_lines(out: &mut [u8], at: usize, area: &[u8], from: u16) -> usize
     ensures { (out.new, result) ≡ typed (hex_lines area.now from) (out.old, at) }

@@ -57,7 +57,7 @@ fn is_finite(x: f32) -> bool
     x.is_finite()
 }
 
-// The row of the sheet in the area, good or bad.
+// The row of the sheet in the area, good or bad. tone's own, by a place, is not public; this one is promised of a row's number.
 fn row_in(area: &[u8], k: u8) -> ToneRow
     ensures { result ≡ row_in area.now k }
 {
@@ -69,7 +69,7 @@ fn row_in(area: &[u8], k: u8) -> ToneRow
     }
 }
 
-// Does some tone lie in both rows.
+// Does some tone lie in both rows. tone's own is not public.
 fn shares(a: ToneRow, b: ToneRow) -> bool
     ensures { result ≡ share a b }
 {
@@ -83,6 +83,7 @@ fn is_all_finite(r: ToneRow) -> bool
     is_finite(r.low) && is_finite(r.centre) && is_finite(r.high)
 }
 
+// tone asks for all of it at once, and says no more than that a row is bad.
 #[tactic(auto, using(tone::proofs::Laws::low_is))]
 fn is_ordered(r: ToneRow) -> bool
     ensures { result ≡ is_ordered r }
@@ -232,6 +233,7 @@ fn put_why(out: &mut [u8], at: usize, area: &[u8], why: Refusal) -> usize
     }
 }
 
+// What it answers is a length, that of no text where nothing is refused, by `shown_sheet`.
 #[tactic(auto, unfolding(crate::specs::Shown::shown_sheet, crate::specs::Shown::sheet_text, text::specs::Typing::typed))]
 fn put_sheet(area: &[u8], out: &mut [u8]) -> usize
     ensures { (out.new, result) ≡ typed (shown_sheet area.now) (out.old, 0) }
@@ -367,7 +369,7 @@ fn put_line(area: &[u8], line: &[u8], out: &mut [u8]) -> usize
 // ---- the texts, each at the buffer's start. They answer how many bytes of the text the buffer now holds: all, where there
 // is room, else what there is room for. The rest of the buffer is as it was.
 
-// Why the sheet in the area is refused; nothing where it is not.
+// Why the sheet in the area is refused; nothing where it is not. That is no text, of length 0 (`Held`).
 pub fn print_sheet(area: &[u8], out: &mut [u8]) -> usize
     ensures { Held (shown_sheet area.now) out.old out.new result }
 {

@@ -50,7 +50,7 @@ pub fn put(out: &mut [u8], at: usize, byte: u8) -> usize
     at
 }
 
-// All bytes of a text.
+// All bytes of a text. shown_card has it of their digits (`put_bytes`): another step, and no more in common than the `for`.
 #[tactic(auto, unfolding(crate::specs::Typing::typed))]
 pub fn put_text(out: &mut [u8], at: usize, text: &[u8]) -> usize
     ensures { (out.new, result) ≡ typed text.now (out.old, at) }
@@ -180,7 +180,7 @@ pub fn put_refusal(out: &mut [u8], at: usize, why: Refusal) -> usize
 
 // ---- hexadecimal digits
 
-// The digit of what a number is over sixteens.
+// The digit of what a number is over sixteens. None is none: under ten it is a numeral, from ten on a letter.
 fn glyph(b: u8) -> u8
     ensures { result ≡ Hex·glyph (b % 16) }
 {

@@ -152,7 +152,7 @@ fn put_braked(out: &mut [u8], at: usize, cause: u8, since: u16) -> usize
     put_text(out, at, cause_name(cause))
 }
 
-// `before` is the cause that stood before the sample.
+// `before` is the cause that stood before the sample. Causes are numbers, 0 for none (`brake_text`).
 #[tactic(auto, unfolding(crate::specs::Words::brake_text, text::specs::Typing::typed))]
 fn put_brake(out: &mut [u8], at: usize, before: u8, cause: u8, since: u16) -> usize
     ensures { (out.new, result) ≡ typed (brake_text before cause since) (out.old, at) }
