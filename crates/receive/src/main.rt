@@ -29,7 +29,8 @@ const TEXT_ROOM: usize = 45144;
 
 // ---- SIZE
 
-// The number with one more digit behind it; none where that is no digit, or more than any size.
+// The number with one more digit behind it; none where that is no digit, or more than any size. `hex_digit` answers a number,
+// which says by one comparison what is no decimal digit; `next_size` of specs/ reckons with it.
 fn next_size(n: u16, b: u8) -> Option<u16>
     ensures some { IfSome result (λ next. (next ≡ next_size n b) × (next ≤ 4096)) }
     ensures none { IfNone result (next_size n b ≡ no_size) }
@@ -43,7 +44,8 @@ fn next_size(n: u16, b: u8) -> Option<u16>
     }
 }
 
-// The size that the word says, where it says one.
+// The size that the word says, where it says one. By `size_in` of specs/, under which a word with a sign says none: `parse`
+// takes one.
 #[tactic(auto, using(crate::proofs::Sizes::goes_on, crate::proofs::Sizes::none_said, crate::proofs::Sizes::said))]
 fn size_in(word: &[u8]) -> Option<u16>
     ensures some { IfSome result (λ size. (size ≡ size_in word.now) × (0 < size)) }
@@ -56,7 +58,8 @@ fn size_in(word: &[u8]) -> Option<u16>
     (n > 0).then_some(n)
 }
 
-// The size asked for. A word of more than four bytes is not handed out, and says none.
+// The size asked for. A word of more than four bytes is not handed out, and says none. Each room of the program is of a fixed
+// size: there is no heap, and it cannot run out of memory.
 fn size_asked(rt: &impl System) -> Result<u16, Failure> {
     let mut space = [0; 4];
     match word_behind_card(rt, USAGE, &mut space)? {
@@ -67,7 +70,7 @@ fn size_asked(rt: &impl System) -> Result<u16, Failure> {
 
 // ---- the line
 
-// What a piece shows; one without bytes is the line's end.
+// What a piece shows; one without bytes is the line's end. Typed into a lent buffer, as `print_piece` does: no heap.
 fn printed_of(receiver: Receiver, piece: &[u8], text: &mut [u8]) -> Printed
     ensures { result.length ≤ length text.new }
 {

@@ -22,7 +22,8 @@ const FIRST_QUOTA: usize = 2;
 
 // ---- QUOTA..
 
-// What the argument of this number says. One of more than 4,096 bytes is not handed out, and says none.
+// What the argument of this number says. One of more than 4,096 bytes is not handed out, and says none. Each room of the program is of a
+// fixed size: there is no heap, and it cannot run out of memory.
 fn quota_said(rt: &impl System, number: usize) -> Option<u64> {
     let mut space = [0; 4096];
     quota_in(argument(rt, number, &mut space))

@@ -8,6 +8,7 @@ use shell::{Failure, System, failed};
 
 const USAGE: &[u8] = b"usage: ride CARD [reason] < RECORDING\n";
 
+// Each room of the program is of a fixed size: there is no heap, and it cannot run out of memory.
 fn print(rt: &impl System) -> Result<(), Failure> {
     let mut space = [0; 4096];
     let form = match word_behind_card(rt, USAGE, &mut space)? {

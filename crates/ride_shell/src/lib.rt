@@ -19,7 +19,8 @@ const RECORDING_ROOM: usize = 60007;
 // A heading of at most 34 bytes, and 10,000 lines of at most six numbers, none of more than ten digits and what ends it.
 const TEXT_ROOM: usize = 660040;
 
-// Room for the recording, one byte more than the longest has, all of it 0.
+// Room for the recording, one byte more than the longest has, all of it 0. Each room of a program is of a fixed size: there is no heap,
+// and none can run out of memory.
 pub fn recording_room() -> [u8; RECORDING_ROOM]
     ensures value { 60007 ≡ length result }
     ensures by_index { (i : ℕ) → get_or result i 0 ≡ 0 }
@@ -62,6 +63,7 @@ pub fn card_under<'a>(
 
 // Says a heading, and below it the text that is typed of the card in the file that the first argument names and of the recording on
 // standard input. The text has the heading too, which is not said again; it is typed into the buffer, and `print` answers how long it is.
+// What is printed is promised byte by byte of a buffer that is lent (`printed_as`, `printed_why`), so it is no `Display`.
 pub fn print_under<P: Fn(&[u8], &[u8], &mut [u8]) -> usize>(
     rt: &impl System,
     heading: &[u8],
@@ -80,7 +82,8 @@ pub fn print_under<P: Fn(&[u8], &[u8], &mut [u8]) -> usize>(
     say(rt, text.strip_prefix(heading).unwrap_or_default())
 }
 
-// The ride in this form: its heading, and below it, where the card's file could be read, all else.
+// The ride in this form: its heading, and below it, where the card's file could be read, all else. `why` has the same of another heading,
+// another text and another room: `print_under` is what they have in common.
 pub fn say_ride(rt: &impl System, form: Form) -> Result<(), Failure> {
     let mut space = [0; 64];
     let h = print_heading(form, &mut space);

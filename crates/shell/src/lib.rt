@@ -97,7 +97,9 @@ pub fn has_argument(rt: &impl System, usage: &[u8]) -> Result<(), Failure> {
 
 // ---- the file that the argument names
 
-// The file that the program's one argument names, as `named_file` has it; none where there is not one argument.
+// The file that the program's one argument names, as `named_file` has it; none where there is not one argument. That the bytes lie
+// within the buffer is said of a result beside an argument, here, in `named_file` and in `read_piece`: no invariant of a type can hold
+// it.
 pub fn argument_file<'a>(
     rt: &impl System,
     usage: &[u8],

@@ -5,6 +5,7 @@
 use shell::{Failure, System, argument_file, say};
 use shown_card::print_card;
 
+// Each room of the program is of a fixed size: there is no heap, and it cannot run out of memory.
 fn show(rt: &impl System) -> Result<(), Failure> {
     let mut space = [0; 65536];
     let area = argument_file(rt, b"usage: show_card FILE\n", &mut space)?;

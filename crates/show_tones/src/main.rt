@@ -8,7 +8,8 @@ use shown_tones::{print_sheet, print_tone};
 const USAGE: &[u8] =
     b"usage: show_tones SHEET < TONES, a tone a line as the 8 hexadecimal digits of its f32 in kHz\n";
 
-// What the line reads as.
+// What the line reads as. Each room of the program is of a fixed size: there is no heap, and it cannot run out of
+// memory.
 fn show_line(rt: &impl System, sheet: &[u8], line: &[u8]) -> Result<(), Failure> {
     let mut text = [0; 4096];
     let n = print_tone(sheet, line, &mut text);

@@ -13,6 +13,8 @@ const USAGE: &[u8] = b"usage: why CARD [words] < RECORDING\n";
 // No heading and 10,000 lines of at most 140 bytes, in words; in numbers 660,040 bytes do (proofs/Room.antt).
 const TEXT_ROOM: usize = 1400040;
 
+// It is ride_shell's `say_ride` with another heading, another text and another room; `print_under` is what they have in common. Each room
+// of the program is of a fixed size: there is no heap, and it cannot run out of memory.
 fn say_why(rt: &impl System, telling: Telling) -> Result<(), Failure> {
     let mut space = [0; 64];
     let h = print_why_heading(telling, &mut space);
