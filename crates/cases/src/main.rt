@@ -23,7 +23,8 @@ const MOST: usize = 256;
 
 // ---- bytes
 
-// A digit behind so many others, where there is room for it: how many there are then.
+// A digit behind so many others, where there is room for it: how many there are then. Digits stand with blanks between them wherever
+// they like, so they are taken one by one, each into its half of a byte of the lent room.
 fn put_half(bytes: &mut [u8; MOST], halves: usize, digit: u8) -> usize {
     let at = halves / 2;
     if at < 255 && digit < 16 {
@@ -33,7 +34,8 @@ fn put_half(bytes: &mut [u8; MOST], halves: usize, digit: u8) -> usize {
     halves
 }
 
-// The bytes behind the line's first word; what is no hexadecimal digit is passed over. Answers how many there are.
+// The bytes behind the line's first word; what is no hexadecimal digit is passed over. Answers how many there are. They stand at the
+// start of the room, which the lines to come use again: no heap, and its length beside it.
 fn bytes_of(line: &[u8], bytes: &mut [u8; MOST]) -> u8 {
     let mut halves = 0;
     for &b in &line[behind(line, 0, b' ')..] {
@@ -44,7 +46,8 @@ fn bytes_of(line: &[u8], bytes: &mut [u8; MOST]) -> u8 {
 
 // ---- what is answered
 
-// Numbers, a blank before each.
+// Numbers, a blank before each. Here and below a function types from `at` on and answers the place behind, as text's do (`typed`): a
+// buffer that is lent, and no heap.
 fn put_numbers(out: &mut [u8], at: usize, numbers: &[u32]) -> usize {
     let mut place = at;
     for &n in numbers {
@@ -53,6 +56,7 @@ fn put_numbers(out: &mut [u8], at: usize, numbers: &[u32]) -> usize {
     place
 }
 
+// Numbers alone, here and in `put_rows`; shown_card's say what each of them is.
 fn put_row(out: &mut [u8], at: usize, row: Row) -> usize {
     let numbers = [row.initial, row.last, row.delay, row.drop];
     put_numbers(out, at, &numbers.map(u32::from))
@@ -94,6 +98,7 @@ fn put_refused(out: &mut [u8], at: usize, why: Refusal) -> usize {
     put_refusal(out, at, why)
 }
 
+// Area and highest as `card::read` takes them.
 fn put_card(out: &mut [u8], at: usize, area: &[u8], highest: u8) -> usize {
     let reading = card::read(area, highest);
     match reading {
@@ -120,6 +125,7 @@ fn put_outcome(out: &mut [u8], at: usize, answer: Result<(), Refusal>) -> usize 
     }
 }
 
+// Version and settings as `card::write` takes them.
 fn put_written(out: &mut [u8], at: usize, version: u8, s: Settings, buffer: &mut [u8]) -> usize {
     let answer = card::write(version, s, buffer);
     let at = put_outcome(out, at, answer);
@@ -154,6 +160,7 @@ fn put_tone(out: &mut [u8], at: usize, area: &[u8], bits: u32) -> usize {
 
 // ---- the cases
 
+// From a place of a fixed format, total past its end. card's own reader refuses settings that are out of range.
 fn row_at(card: &[u8], at: u8) -> Row {
     let i = at as usize;
     Row {
@@ -216,6 +223,7 @@ struct Change {
     byte: Option<Byte>,
 }
 
+// Typed as above. Each question has arguments of its own, so a match gives them, and no closure.
 fn put_asked(out: &mut [u8], at: usize, area: &[u8], question: Question) -> usize {
     match question {
         Question::Card(highest) => put_card(out, at, area, highest),
@@ -223,6 +231,7 @@ fn put_asked(out: &mut [u8], at: usize, area: &[u8], question: Question) -> usiz
     }
 }
 
+// The whole room and beside it how many of its bytes are the area: a case may mean more than these, and change one behind them.
 fn put_changed(
     out: &mut [u8],
     at: usize,
@@ -269,7 +278,7 @@ fn change_in(said: &[u8]) -> Change {
     }
 }
 
-// That of a case of n bytes, behind those that ask.
+// That of a case of n bytes, behind those that ask. Its room has as many bytes as any case: no heap, and n beside it.
 fn change_at(case: &[u8; MOST], n: u8, asked: u8) -> Change {
     if n < asked {
         return change_in(&[]);
@@ -277,6 +286,7 @@ fn change_at(case: &[u8; MOST], n: u8, asked: u8) -> Change {
     change_in(&case[usize::from(asked)..usize::from(n)])
 }
 
+// The buffer is a room of a fixed size.
 fn write_case(out: &mut [u8], at: usize, area: &[u8], case: &[u8; MOST]) -> usize {
     let mut buffer = [case[2]; MOST];
     put_written(
@@ -288,6 +298,7 @@ fn write_case(out: &mut [u8], at: usize, area: &[u8], case: &[u8; MOST]) -> usiz
     )
 }
 
+// Room and length as `put_changed` takes them.
 fn put_answer(out: &mut [u8], at: usize, area: &mut [u8; MOST], length: u8, line: &[u8]) -> usize {
     let mut case = [0u8; MOST];
     let n = bytes_of(line, &mut case);
@@ -314,7 +325,8 @@ fn put_answer(out: &mut [u8], at: usize, area: &mut [u8; MOST], length: u8, line
     }
 }
 
-// The line again, with what is answered to it where it is a case.
+// The line again, with what is answered to it where it is a case. Room and length as `put_changed` takes them. Each room of the
+// program is of a fixed size: there is no heap, and it cannot run out of memory.
 fn say_line(rt: &impl System, area: &mut [u8; MOST], length: u8, line: &[u8]) {
     let mut out = [0u8; 4096];
     let at = put_text(&mut out, 0, line);
@@ -329,6 +341,7 @@ fn say_line(rt: &impl System, area: &mut [u8; MOST], length: u8, line: &[u8]) {
     let _ = shell::say(rt, &out[..n.min(out.len())]);
 }
 
+// Its rooms are of a fixed size, as all are.
 fn main(rt: HostRuntime) {
     let mut area = [0u8; MOST];
     let mut length: u8 = 0;

@@ -24,7 +24,8 @@ const NO_SAMPLE: Sample = Sample {
     mode: 0,
 };
 
-// The sample of this place; one that is refused where there is none.
+// The sample of this place; one that is refused where there is none. By place, total, in a room of a fixed size: what
+// a sample costs is measured of the session's crates alone, and rides, which reads a sample too, is none of them.
 fn sample_at(s: &[u8], place: u16) -> Sample {
     let at = 57 + 6 * usize::from(place);
     let Some(six) = s.get(at..at + 6) else {
@@ -114,6 +115,7 @@ fn ride(rt: &impl System, s: &[u8], card: Card) {
     }
 }
 
+// All that is read has a room of a fixed size: no heap.
 fn main(rt: HostRuntime) {
     let mut s = [0u8; 65536];
     shell::read_input(&rt, &mut s);

@@ -20,11 +20,14 @@ use text::{put, put_ended, put_labelled, put_text};
 // ---- what a call shows
 
 // Where the answers' lines end among a text's first n bytes: where the line begins that has the call's fault, `refused N`, which
-// is no line here but the status behind the call. Of all lines it alone has the letter `r`.
+// is no line here but the status behind the call. Of all lines it alone has the letter `r`. n beside the text: it lies in a room
+// of a fixed size, behind whose answers the status is typed.
 fn answers_end(text: &[u8], n: usize) -> usize {
     first(text, n).iter().position(|&b| b == b'r').unwrap_or(n)
 }
 
+// Here and below a function types from `at` on and answers the place behind, as text's do (`typed`): a buffer that is lent, and
+// no heap.
 fn put_status(out: &mut [u8], at: usize, status: Status) -> usize {
     match status {
         Status::Open => put_text(out, at, b"open"),
@@ -33,7 +36,8 @@ fn put_status(out: &mut [u8], at: usize, status: Status) -> usize {
     }
 }
 
-// The answers' lines, which end here in the text, and the status behind them.
+// The answers' lines, which end here in the text, and the status behind them. The status is typed behind them in the same room,
+// so their end is a place.
 fn say_lines(rt: &impl System, text: &mut [u8], end: usize, status: Status) {
     let at = put_status(text, end, status);
     let n = put(text, at, b'\n');
@@ -60,7 +64,8 @@ fn tallied(text: &[u8], mark: u32) -> Tally {
     Tally { lines, mark }
 }
 
-// A piece's count of lines and the status behind it; of the end the status and the mark.
+// A piece's count of lines and the status behind it; of the end the status and the mark. A sign says which of two lines it is,
+// each of other values. Each room of the program is of a fixed size: there is no heap, and it cannot run out of memory.
 fn say_tally(rt: &impl System, tally: Tally, sign: u8, status: Status) {
     let mut line = [0u8; 4096];
     if sign == b'.' {
@@ -76,7 +81,8 @@ fn say_tally(rt: &impl System, tally: Tally, sign: u8, status: Status) {
     let _ = shell::say(rt, &line[..n.min(line.len())]);
 }
 
-// What the call with this sign shows, in full or counted, where its text has n bytes. Answers the mark after it.
+// What the call with this sign shows, in full or counted, where its text has n bytes. Answers the mark after it. Two ways to say
+// one call, with one end found before: a closure for either would be handed all of these.
 fn say_shown(
     rt: &impl System,
     in_full: bool,
@@ -98,7 +104,7 @@ fn say_shown(
 
 // ---- calls
 
-// The call with this sign, a piece or the end.
+// The call with this sign, a piece or the end. Typed into a lent buffer, as `print_piece` does; the end has no piece.
 fn called(receiver: Receiver, sign: u8, piece: &[u8], text: &mut [u8]) -> Printed {
     if sign == b'.' {
         return print_end(Columns::Paper, receiver, text);
@@ -106,7 +112,8 @@ fn called(receiver: Receiver, sign: u8, piece: &[u8], text: &mut [u8]) -> Printe
     print_piece(Columns::Paper, receiver, piece, text)
 }
 
-// All calls; each takes a byte of them or more, so that there are no more calls than bytes.
+// All calls; each takes a byte of them or more, so that there are no more calls than bytes. Its step hands on a receiver and a
+// mark, that of replay_cases a session, and both go on where the step's own digits end.
 fn say_calls(rt: &impl System, in_full: bool, receiver: Receiver, calls: &[u8]) {
     let mut space = [0u8; 65536];
     let mut text = [0u8; 65536];
@@ -131,12 +138,14 @@ fn say_calls(rt: &impl System, in_full: bool, receiver: Receiver, calls: &[u8]) 
 
 // ---- cuts
 
-// The first n bytes, or all where there are fewer.
+// The first n bytes, or all where there are fewer. n is what was typed, and may be more than there are: `&bytes[..n]` alone
+// could fail.
 fn first(bytes: &[u8], n: usize) -> &[u8] {
     &bytes[..n.min(bytes.len())]
 }
 
-// The calls of a recording in two pieces, the first of so many bytes, and its end.
+// The calls of a recording in two pieces, the first of so many bytes, and its end. Typed at the start of a lent buffer, cut at a
+// place.
 fn put_cut(calls: &mut [u8], digits: &[u8], place: usize) -> usize {
     if place > digits.len() / 2 {
         return 0;
@@ -155,6 +164,7 @@ fn say_place(rt: &impl System, place: usize) {
     let _ = shell::say(rt, &line[..n.min(line.len())]);
 }
 
+// The place is where the recording is cut.
 fn say_cut(rt: &impl System, receiver: Receiver, digits: &[u8], place: usize) {
     let mut calls = [0u8; 65536];
     let n = put_cut(&mut calls, digits, place);
@@ -186,6 +196,7 @@ enum Way {
     Cuts(u8),
 }
 
+// A case is one of two, which its first letter says; here alone it matters.
 fn go(rt: &impl System, way: Way, receiver: Receiver, word: &[u8]) {
     match way {
         Way::Pieces => say_calls(rt, true, receiver, word),
@@ -193,7 +204,8 @@ fn go(rt: &impl System, way: Way, receiver: Receiver, word: &[u8]) {
     }
 }
 
-// On this card: its refusal, which stands below the heading of h bytes, or what the word behind it asks.
+// On this card: its refusal, which stands below the heading of h bytes, or what the word behind it asks. Both are typed into one
+// room, so the heading's end is a place.
 fn start(rt: &impl System, way: Way, card: &[u8], h: usize, word: &[u8]) {
     let mut text = [0u8; 4096];
     let begun = print_start(Columns::Paper, card, &mut text);
@@ -205,7 +217,7 @@ fn start(rt: &impl System, way: Way, card: &[u8], h: usize, word: &[u8]) {
     }
 }
 
-// The card from this place of the line on, and the word behind it.
+// The card from this place of the line on, and the word behind it. Line and place as case_lines takes them.
 fn start_at(rt: &impl System, way: Way, line: &[u8], from: usize) {
     let mut space = [0u8; 65536];
     let h = print_heading(Form::Answers(Columns::Paper), &mut space);
@@ -232,6 +244,7 @@ fn answer(rt: &impl System, line: &[u8]) {
     }
 }
 
+// What the programs of cases have in common is `for_each_line`; the room and the answer are each one's own.
 fn main(rt: HostRuntime) {
     let mut space = [0; 65536];
     let _ = shell::for_each_line(&rt, &mut space, |line| {

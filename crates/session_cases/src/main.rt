@@ -29,6 +29,7 @@ fn card_k() -> [u8; 44] {
 
 // ---- what is written
 
+// Each room of the program is of a fixed size: there is no heap, and it cannot run out of memory.
 fn refusal(rt: &impl System, why: Refusal) {
     let mut line = [0u8; 4096];
     let at = put_refusal(&mut line, 0, why);
@@ -76,6 +77,7 @@ fn reads(rt: &impl System, session: Session, pulses: u16, beacon: u8) -> Session
     after(rt, session, pulses, beacon, 0, 1)
 }
 
+// Here and below by value, so that a case is one expression: `with_train(with_tick(long, 100), 0)` is handed to a call.
 fn with_tick(mut session: Session, tick: u16) -> Session {
     session.card.settings.tick = tick;
     session
@@ -167,7 +169,7 @@ fn code_and_cause(rt: &impl System, session: Session) {
     reads(rt, with_cause(session, 7), 0, 0);
 }
 
-// So many samples in CONV with these pulses.
+// So many samples in CONV with these pulses. A session goes from sample to sample: the step is all that there is.
 fn goes_on(rt: &impl System, session: Session, pulses: u16, samples: u16) -> Session {
     let mut going = session;
     for _ in 0..samples {

@@ -18,6 +18,7 @@ fn pairs_c() -> Pairs {
     }
 }
 
+// Here and below by value, so that what differs stands in a call's argument.
 fn with_pairs(settings: Settings, pairs: Pairs) -> Settings {
     Settings { pairs, ..settings }
 }
@@ -39,6 +40,7 @@ fn with_slow_vmax(settings: Settings) -> Settings {
     }
 }
 
+// Version and settings one by one: this is where the card is made.
 fn opens(rt: &impl System, version: u8, settings: Settings, train: u8) {
     let opened = Session::open(Card { version, settings }, train);
     match opened {
@@ -81,6 +83,7 @@ fn opening_order(rt: &impl System, k: Settings) {
 
 // ---- sessions with pairs (02 g)
 
+// Here and below by value, as above.
 fn with_version(mut session: Session, version: u8) -> Session {
     session.card.version = version;
     session

@@ -20,6 +20,7 @@ use text::put_ended;
 
 // ---- a sample's line
 
+// Here and below a function types at the start of a lent buffer and answers the length, as text's do (`typed`): no heap.
 fn put_reasoned(out: &mut [u8], reasoned: Reasoned) -> usize {
     let why = reasoned.why;
     let reason = why.reason;
@@ -36,7 +37,8 @@ fn put_told(out: &mut [u8], told: Result<Reasoned, Refusal>) -> usize {
     }
 }
 
-// The session after a sample, whose line is written.
+// The session after a sample, whose line is written. Each room of the program is of a fixed size: there is no heap, and it cannot run out of
+// memory.
 fn say_sample(rt: &impl System, session: Session, x: Sample) -> Session {
     let asked = session.ask(x);
     let told = asked.told;
@@ -48,6 +50,7 @@ fn say_sample(rt: &impl System, session: Session, x: Sample) -> Session {
 
 // ---- samples
 
+// A sample without a recording, of whose head `rides::recording::sample_at` knows.
 fn sample_in(six: &[u8]) -> Sample {
     Sample {
         pulses: word_at(six, 0),
@@ -57,6 +60,7 @@ fn sample_in(six: &[u8]) -> Sample {
     }
 }
 
+// A session goes from sample to sample: the step is all that there is.
 fn say_samples(rt: &impl System, session: Session, samples: &[u8]) {
     let mut going = session;
     for six in samples.chunks_exact(6) {
@@ -66,20 +70,21 @@ fn say_samples(rt: &impl System, session: Session, samples: &[u8]) {
 
 // ---- the cases
 
-// What the brake is made to be.
+// What the brake is made to be. Any number may be the cause: a session out of its ranges is a case too.
 #[derive(Clone, Copy)]
 struct Braked {
     cause: u8,
     since: u16,
 }
 
+// By value, so that it stands in a call's argument.
 fn with_brake(mut session: Session, braked: Braked) -> Session {
     session.desk.brake.cause = braked.cause;
     session.desk.brake.age = braked.since;
     session
 }
 
-// The samples from this place of the line on.
+// The samples from this place of the line on. Line and place as case_lines takes them, here and below.
 fn go_at(rt: &impl System, session: Session, line: &[u8], from: usize) {
     let mut space = [0u8; 65536];
     let samples = unhex(line, from, &mut space);
@@ -87,6 +92,7 @@ fn go_at(rt: &impl System, session: Session, line: &[u8], from: usize) {
     say_samples(rt, session, &space[..n]);
 }
 
+// It is `printed::put_refused` in a room of its own, as in replay_cases: what both have in common is there.
 fn say_refused(rt: &impl System, number: u8) {
     let mut line = [0u8; 4096];
     let n = put_refused(&mut line, 0, number);
@@ -141,6 +147,7 @@ fn answer(rt: &impl System, line: &[u8]) {
     }
 }
 
+// What the programs of cases have in common is `for_each_line`; the room and the answer are each one's own.
 fn main(rt: HostRuntime) {
     let mut space = [0; 65536];
     let _ = shell::for_each_line(&rt, &mut space, |line| {
