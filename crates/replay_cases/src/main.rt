@@ -26,27 +26,22 @@ use text::{put_ended, put_labelled, put_text};
 
 // ---- a line's words
 
-fn number_said(word: &[u8]) -> u64 {
-    let quota = quota_in(word);
-    match quota {
-        Some(n) => n,
-        None => 0,
-    }
-}
-
-// The decimal number from this place on, 0 where there is none.
+// The decimal number from this place on, 0 where there is none. Line and place as case_lines takes them. Any number of digits is a
+// number here, up to the greatest, where `parse` fails.
 fn number_at(text: &[u8], from: usize) -> u64 {
     let Some(rest) = text.get(from..) else {
         return 0;
     };
     match rest.iter().position(|b| !b.is_ascii_digit()) {
-        Some(end) => number_said(&rest[..end]),
-        None => number_said(rest),
+        Some(end) => quota_in(&rest[..end]).unwrap_or(0),
+        None => quota_in(rest).unwrap_or(0),
     }
 }
 
 // ---- a replay's line
 
+// Here and below a function types from `at` on and answers the place behind, as text's do (`typed`): a buffer that is lent, and no
+// heap.
 fn put_last(out: &mut [u8], at: usize, last: Option<Answer>) -> usize {
     match last {
         Some(a) => put_answer(out, at, a, b' '),
@@ -66,6 +61,7 @@ fn put_end(out: &mut [u8], at: usize, end: End) -> usize {
     }
 }
 
+// Each room of the program is of a fixed size: there is no heap, and it cannot run out of memory.
 fn say_line(rt: &impl System, ran: u16, last: Option<Answer>, end: End) {
     let mut line = [0u8; 4096];
     let at = put_ended(&mut line, 0, u32::from(ran), b' ');
@@ -74,7 +70,7 @@ fn say_line(rt: &impl System, ran: u16, last: Option<Answer>, end: End) {
     let _ = shell::say(rt, &line[..n.min(line.len())]);
 }
 
-// A replay, whose line is written.
+// A replay, whose line is written. What `replay` takes, one by one.
 fn say_replay(
     rt: &impl System,
     session: Session,
@@ -91,7 +87,8 @@ fn say_replay(
 
 // ---- calls
 
-// All calls; each takes a byte of them or more, so that there are no more calls than bytes.
+// All calls; each takes a byte of them or more, so that there are no more calls than bytes. Its step hands on a session, that of
+// receive_cases a receiver and a mark, and both go on where the step's own words end.
 fn say_calls(rt: &impl System, session: Session, recording: &[u8], calls: &[u8]) {
     let mut going = session;
     let mut i = 0;
@@ -109,7 +106,7 @@ fn say_calls(rt: &impl System, session: Session, recording: &[u8], calls: &[u8])
 
 // ---- splits
 
-// So many samples, and from where they ended so many more.
+// So many samples, and from where they ended so many more. Both are quotas, and no places of the recording.
 fn say_split(rt: &impl System, session: Session, recording: &[u8], first: u16, second: u16) {
     let replayed = say_replay(rt, session, recording, 0, u64::from(first));
     let after = replayed.session;
@@ -139,11 +136,13 @@ enum Way {
     Splits,
 }
 
+// By value, so that it stands in a call's argument.
 fn with_steps(mut session: Session, steps: u8) -> Session {
     session.desk.beside.limit.steps = steps;
     session
 }
 
+// A case is one of two, which its first letter says; here alone it matters.
 fn go(rt: &impl System, way: Way, session: Session, recording: &[u8], calls: &[u8]) {
     match way {
         Way::Calls(steps) => say_calls(rt, with_steps(session, steps), recording, calls),
@@ -151,7 +150,8 @@ fn go(rt: &impl System, way: Way, session: Session, recording: &[u8], calls: &[u
     }
 }
 
-// The recording from this place of the line on, and the calls behind it.
+// The recording from this place of the line on, and the calls behind it. Line and place as case_lines takes them, here and in
+// `start_at`.
 fn go_at(rt: &impl System, way: Way, session: Session, line: &[u8], from: usize) {
     let mut space = [0u8; 65536];
     let recording = unhex(line, from, &mut space);
@@ -160,6 +160,7 @@ fn go_at(rt: &impl System, way: Way, session: Session, line: &[u8], from: usize)
     go(rt, way, session, &space[..n], &line[calls..]);
 }
 
+// It is `printed::put_refused` in a room of its own, as in why_cases: what both have in common is there.
 fn say_refused(rt: &impl System, number: u8) {
     let mut line = [0u8; 4096];
     let n = put_refused(&mut line, 0, number);
@@ -203,6 +204,7 @@ fn answer(rt: &impl System, line: &[u8]) {
     }
 }
 
+// What the programs of cases have in common is `for_each_line`; the room and the answer are each one's own.
 fn main(rt: HostRuntime) {
     let mut space = [0; 65536];
     let _ = shell::for_each_line(&rt, &mut space, |line| {
