@@ -131,7 +131,7 @@ fn reason(number: u8) -> &'static [u8]
     }
 }
 
-// The length of a version's record. card's own is not public.
+// The length of a version's record. card's own is not public, and `must-fail/refused.edit` edits this one.
 fn length_of(version: u8) -> u32
     ensures { result ≡ length_of version }
 {

@@ -69,7 +69,7 @@ fn row_in(area: &[u8], k: u8) -> ToneRow
     }
 }
 
-// Does some tone lie in both rows. tone's own is not public.
+// Does some tone lie in both rows. tone's own is not public, and `must-fail/shown.edit` edits this one.
 fn shares(a: ToneRow, b: ToneRow) -> bool
     ensures { result ≡ share a b }
 {
