@@ -4,7 +4,8 @@
 // definition of specs/ that it names gives.
 #![tactic(auto)]
 
-ghost use Rattle.std.specs.Prelude.{◌≡◌, ◌+◌, ◌*◌, min, ◌≤◌, length};
+ghost use Rattle.std.specs.Prelude.{◌≡◌, ◌+◌, ◌*◌, min, ◌≤◌, ◌<◌, length, MatchOption};
+ghost use Rattle.text.specs.Hex.{hex_value};
 ghost use Rattle.leaf.specs.Bytes.{over};
 ghost use Rattle.session.specs.Session.{opened_of};
 ghost use Rattle.text.specs.Typing.{typed};
@@ -190,6 +191,16 @@ pub fn print_quota(
 
 // ---- a quota as a word
 
+fn decimal_digit(byte: u8) -> Option<u8>
+    ensures { MatchOption result (10 ≤ hex_value byte) (λ digit. (digit ≡ hex_value byte) × (digit < 10)) }
+{
+    let digit = hex_digit(byte);
+    if digit > 9 {
+        return None;
+    }
+    Some(digit)
+}
+
 // A number with one more digit behind it, or the greatest where that is above it.
 fn next_quota(n: u64, digit: u8) -> u64
     ensures { result ≡ min (n * 10 + digit) most_quota }
@@ -208,11 +219,7 @@ pub fn quota_in(word: &[u8]) -> Option<u64>
     }
     let mut quota = 0;
     for &byte in word {
-        let digit = hex_digit(byte);
-        if digit > 9 {
-            return None;
-        }
-        quota = next_quota(quota, digit);
+        quota = next_quota(quota, decimal_digit(byte)?);
     }
     Some(quota)
 }

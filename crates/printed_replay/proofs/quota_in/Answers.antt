@@ -13,19 +13,21 @@ returns-then-is_empty c =
 pub loop-byte-init : goal.loop-byte-init
 loop-byte-init c = none_said _
 
-pub returns-then-digit-gt9 : goal.returns-then-digit-gt9
-returns-then-digit-gt9 c = let l = c.loop-byte in
+pub returns-in_err-decimal_digit : goal.returns-in_err-decimal_digit
+returns-in_err-decimal_digit c = let l = c.loop-byte in
     let word = c.args.word.now in
     let here : l.byte-index < length word = c.loop-byte-test.true in
-    let digit : 10 ≤ hex_value (get_or word l.byte-index 0) = omega (arith, c.hex_digit-digit.ensures, c.if-digit-gt9.true) in
-    other word l.byte-index l.quota l.invariant here digit
+    let digit : 10 ≤ hex_value (get_or word l.byte-index 0) = c.in_err-decimal_digit.ensures in
+    rw c.from_residual.ensures (other word l.byte-index l.quota l.invariant here digit)
 
 pub loop-byte-preserved : goal.loop-byte-preserved
 loop-byte-preserved c = let l = c.loop-byte in
     let word = c.args.word.now in
     let here : l.byte-index < length word = c.loop-byte-test.true in
-    let digit : hex_value (get_or word l.byte-index 0) < 10 = omega (arith, c.hex_digit-digit.ensures, c.if-digit-gt9.false) in
-    rw (c.next_quota-quota.ensures, c.hex_digit-digit.ensures) (one_more word l.byte-index l.quota l.invariant here digit)
+    let same = c.in_ok-decimal_digit.ensures.0 in
+    let low = c.in_ok-decimal_digit.ensures.1 in
+    let digit : hex_value (get_or word l.byte-index 0) < 10 = omega (arith, same, low) in
+    rw (c.next_quota-quota.ensures, same) (one_more word l.byte-index l.quota l.invariant here digit)
 
 pub returns : goal.returns
 returns c = let l = c.loop-byte in
