@@ -35,7 +35,8 @@ pub struct Turned {
     pub shown: Shown,
 }
 
-// A turn, and why the S that it shows is what it is; where it shows no answer there is no reason, and all is 0.
+// A turn, and why the S that it shows is what it is; where it shows no answer there is no reason, and all is 0. Not an Option: `Why.explained_of`,
+// which stays, gives this one, and a turn is printed with a reason whatever it shows.
 #[derive(Clone, Copy)]
 pub struct Explained {
     pub turned: Turned,
