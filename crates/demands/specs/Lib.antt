@@ -15,3 +15,4 @@ pub mod Why
 pub mod ShutOut
 pub mod Starred
 pub mod Lazy
+pub mod Untouched

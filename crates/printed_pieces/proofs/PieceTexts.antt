@@ -7,7 +7,7 @@ use mathlib.Core.Logic.{◌⊎◌, inl, inr}
 use mathlib.Core.List.{List, [], ◌∷◌, ◌++◌, append_assoc, append-nil, flatten}
 use lib.ListN.{length, get_or, take, length-append}
 use lib.Seq.{take-suc}
-use Rattle.leaf.specs.Answers.{refusal_of}
+use Rattle.leaf.specs.Answers.{refused, refused_at, refusal_of}
 use Rattle.leaf.specs.declared.refusal.Refusal.{Refusal}
 use Rattle.leaf.proofs.ByNumber.{by_number, as_it_is}
 use Rattle.rides.specs.Ride.{number_of}
@@ -31,6 +31,14 @@ start_refused why = as_it_is start_after (λ n. refl) (λ n place. refl) why
 pub begun_refused : (why : Refusal) → begun_text (refusal_of why) ≡ refused_line (number_of why)
 unfolding begun_text
 begun_refused why = by_number begun_text refused_line (λ n. refl) (λ n place. refl) why
+
+-- the same of every number, also of one that no refusal has
+pub start_refused_any : ((n : ℕ) → start_after (refused n) ≡ refused n) × ((n place : ℕ) → start_after (refused_at n place) ≡ refused_at n place)
+start_refused_any = (λ n. refl, λ n place. refl)
+
+pub begun_refused_any : ((n : ℕ) → begun_text (refused n) ≡ refused_line n) × ((n place : ℕ) → begun_text (refused_at n place) ≡ refused_line n)
+unfolding begun_text
+begun_refused_any = (λ n. refl, λ n place. refl)
 
 -- ---- pieces put together
 

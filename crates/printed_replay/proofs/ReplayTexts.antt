@@ -33,6 +33,11 @@ pub begun_refused : (why : Refusal) → begun_text (refusal_of why) ≡ refused_
 unfolding begun_text
 begun_refused why = by_number begun_text refused_line (λ n. refl) (λ n place. refl) why
 
+-- the same of every number, also of one that no refusal has
+pub begun_refused_any : ((n : ℕ) → begun_text (refused n) ≡ refused_line n) × ((n place : ℕ) → begun_text (refused_at n place) ≡ refused_line n)
+unfolding begun_text
+begun_refused_any = (λ n. refl, λ n place. refl)
+
 -- ---- where a quota ends
 
 -- a quota ends no further than at the recording's end, or where it began; both are places of two bytes
