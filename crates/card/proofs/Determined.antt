@@ -26,7 +26,7 @@ checked_one = result_one
 
 -- ---- the promises, whatever answer they name
 
--- the reader, and the reading by a number
+-- the reader
 pub read_determined : (x : Answer Settings) (a b : Result Settings Refusal) → paper_of a ≡ x → paper_of b ≡ x → a ≡ b
 read_determined x a b pa pb = paper_one a b (pa ∙ sym pb)
 
@@ -34,7 +34,7 @@ read_determined x a b pa pb = paper_one a b (pa ∙ sym pb)
 pub check_determined : (x : Answer Unit) (a b : Result Unit Refusal) → checked_of a ≡ x → checked_of b ≡ x → a ≡ b
 check_determined x a b pa pb = checked_one a b (pa ∙ sym pb)
 
--- the writer's answer by a number
+-- the writer's answer
 pub answer_determined : (x : Answer Unit) (a b : Result Unit Refusal) → written_of a ≡ x → written_of b ≡ x → a ≡ b
 answer_determined x a b pa pb = written_one a b (pa ∙ sym pb)
 

@@ -62,9 +62,9 @@ abbrev pub rows_checks : Kind → ℕ → List Row → List Check
 rows_checks kind offset [] = []
 rows_checks kind offset (row ∷ rest) = row_checks kind offset row ++ rows_checks kind (offset + 4) rest
 
--- the rule of a row, whatever its place
+-- the same rule without the places: those that it is given here are the first row's, and change nothing
 abbrev pub row_met : Row → Bool
-row_met row = within 1 200 row.initial && within 1 row.initial row.last && leb 1 row.drop
+row_met row = all_hold true (row_checks base_kind 4 row)
 
 -- ---- what stands behind the rows
 
