@@ -17,7 +17,7 @@ use card::{Pairs, Row, Settings};
 use case_lines::behind;
 use leaf::{Refusal, byte_at, long_at, word_at};
 use shell::System;
-use text::{hex_digit, put, put_float, put_hex, put_labelled, put_refusal, put_text};
+use text::{hex_digit, put, put_float, put_hex, put_labelled, put_refusal_of, put_text};
 
 const MOST: usize = 256;
 
@@ -95,7 +95,7 @@ fn put_settings(out: &mut [u8], at: usize, s: Settings) -> usize {
 
 fn put_refused(out: &mut [u8], at: usize, why: Refusal) -> usize {
     let at = put_text(out, at, b" ");
-    put_refusal(out, at, why)
+    put_refusal_of(out, at, why)
 }
 
 // Area and highest as `card::read` takes them.

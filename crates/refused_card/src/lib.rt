@@ -15,7 +15,7 @@ ghost use Rattle.refused_card.specs.Refused.{low_end, row_high_end, tail_high_en
 
 use card::Settings;
 use leaf::{Refusal, byte_at, word_at};
-use text::{counted, put_labelled, put_numbered, put_text};
+use text::{counted, put_labelled, put_refusal, put_text};
 
 // ---- names
 
@@ -216,7 +216,7 @@ fn hint(area: &[u8]) -> &'static [u8]
 fn put_refused(out: &mut [u8], at: usize, area: &[u8], highest: u8, number: u8) -> usize
     ensures { (out.new, result) ≡ typed (refused_text area.now highest number) (out.old, at) }
 {
-    let at = put_numbered(out, at, number, None);
+    let at = put_refusal(out, at, number, None);
     let at = put_text(out, at, b": ");
     let at = put_text(out, at, reason(number));
     let at = put_found(out, at, area, highest, number);
@@ -364,7 +364,7 @@ fn put_range(out: &mut [u8], at: usize, area: &[u8], place: u32) -> usize
 fn put_fault(out: &mut [u8], at: usize, area: &[u8], number: u8, place: u8) -> usize
     ensures { (out.new, result) ≡ typed (fault_text area.now number place) (out.old, at) }
 {
-    let at = put_numbered(out, at, number, Some(place));
+    let at = put_refusal(out, at, number, Some(place));
     let at = put_text(out, at, b": ");
     let at = put_setting_name(out, at, u32::from(place));
     let at = put_range(out, at, area, u32::from(place));
@@ -374,7 +374,7 @@ fn put_fault(out: &mut [u8], at: usize, area: &[u8], number: u8, place: u8) -> u
 // ---- the whole text
 
 // What is said of a refusal by its number, whatever that is, and by a place where one stands beside it.
-pub fn put_numbered_why(
+pub fn put_why(
     out: &mut [u8],
     at: usize,
     area: &[u8],
@@ -392,8 +392,8 @@ pub fn put_numbered_why(
 
 // Why a reader that knows the versions up to `highest` refuses the card in the area.
 #[tactic(auto, unfolding(crate::specs::Refused::why_text))]
-pub fn put_why(out: &mut [u8], at: usize, area: &[u8], highest: u8, why: Refusal) -> usize
+pub fn put_why_of(out: &mut [u8], at: usize, area: &[u8], highest: u8, why: Refusal) -> usize
     ensures { (out.new, result) ≡ typed (why_text area.now highest why) (out.old, at) }
 {
-    put_numbered_why(out, at, area, highest, why.number(), why.place())
+    put_why(out, at, area, highest, why.number(), why.place())
 }

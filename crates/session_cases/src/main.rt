@@ -15,7 +15,7 @@ use leaf::Refusal;
 use session::{Sample, Session};
 use shell::{System, say};
 use step::Answer;
-use text::{put, put_refusal};
+use text::{put, put_refusal_of};
 
 // Card K: length, version, vmax, tick length and BTS speed; eight rows of initial, final, delay and drop; functions, X, Y.
 fn card_k() -> [u8; 44] {
@@ -32,7 +32,7 @@ fn card_k() -> [u8; 44] {
 // Each room of the program is of a fixed size: there is no heap, and it cannot run out of memory.
 fn refusal(rt: &impl System, why: Refusal) {
     let mut line = [0u8; 4096];
-    let at = put_refusal(&mut line, 0, why);
+    let at = put_refusal_of(&mut line, 0, why);
     let n = put(&mut line, at, b'\n');
     let _ = say(rt, &line[..n.min(line.len())]);
 }

@@ -16,7 +16,7 @@ ghost use Rattle.shown_card.specs.Shown.{hex_bytes, hex_line, hex_lines, many_te
 
 use card::{Pairs, Row, Settings, functions_of};
 use leaf::{byte_at, word_at};
-use refused_card::{put_row_name, put_why};
+use refused_card::{put_row_name, put_why_of};
 use text::{
     MOST, counted, put, put_ended, put_hex, put_hundredths, put_labelled, put_number, put_tenths,
     put_text,
@@ -308,6 +308,6 @@ pub fn print_card(area: &[u8], out: &mut [u8]) -> usize
     let reading = card::read(area, HIGHEST);
     match reading {
         Ok(s) => put_read(area, s, out),
-        Err(why) => put_why(out, 0, area, HIGHEST, why),
+        Err(why) => put_why_of(out, 0, area, HIGHEST, why),
     }
 }

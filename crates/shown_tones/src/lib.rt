@@ -20,7 +20,7 @@ ghost use Rattle.shown_tones.specs.Shown.{row_kind, row_name, is_ordered, ends_b
 ghost use Rattle.shown_tones.specs.Shown.{is_blank, bytes_in, only_digits, is_tone, bits_of, reading_text, given_text, tone_text, other_text, shown_tone};
 
 use leaf::{QUIET_CODE, Refusal, byte_at, long_at, word_at};
-use text::{counted, hex_digit, put_float, put_labelled, put_numbered, put_pattern, put_text};
+use text::{counted, hex_digit, put_float, put_labelled, put_pattern, put_refusal, put_text};
 use tone::{Reading, ToneRow, float_of};
 
 // ---- a sheet's refusal
@@ -210,7 +210,7 @@ fn put_place(out: &mut [u8], at: usize, area: &[u8], place: u8) -> usize
 fn put_fault(out: &mut [u8], at: usize, area: &[u8], number: u8, place: u8) -> usize
     ensures { (out.new, result) ≡ typed (fault_text area.now number place) (out.old, at) }
 {
-    let at = put_numbered(out, at, number, Some(place));
+    let at = put_refusal(out, at, number, Some(place));
     let at = put_text(out, at, b": ");
     let at = put_place(out, at, area, place);
     put_text(out, at, b"\n")
@@ -219,7 +219,7 @@ fn put_fault(out: &mut [u8], at: usize, area: &[u8], number: u8, place: u8) -> u
 fn put_bad(out: &mut [u8], at: usize, number: u8) -> usize
     ensures { (out.new, result) ≡ typed (bad_text number) (out.old, at) }
 {
-    let at = put_numbered(out, at, number, None);
+    let at = put_refusal(out, at, number, None);
     put_text(out, at, b": tone sheet bad\n")
 }
 

@@ -161,7 +161,7 @@ pub fn put_hundredths(out: &mut [u8], at: usize, n: u32) -> usize
 
 // A refusal by its number, whatever that is, and by a place where one stands beside it.
 #[tactic(auto, using(crate::specs::Typing::then_typed), unfolding(crate::specs::Typing::typed))]
-pub fn put_numbered(out: &mut [u8], at: usize, number: u8, place: Option<u8>) -> usize
+pub fn put_refusal(out: &mut [u8], at: usize, number: u8, place: Option<u8>) -> usize
     ensures { (out.new, result) ≡ typed (numbered_text number place) (out.old, at) }
 {
     let at = put_labelled(out, at, b"refused ", number.into());
@@ -172,10 +172,10 @@ pub fn put_numbered(out: &mut [u8], at: usize, number: u8, place: Option<u8>) ->
 }
 
 // A refusal's number, and its place where it has one.
-pub fn put_refusal(out: &mut [u8], at: usize, why: Refusal) -> usize
+pub fn put_refusal_of(out: &mut [u8], at: usize, why: Refusal) -> usize
     ensures { (out.new, result) ≡ typed (refusal_text why) (out.old, at) }
 {
-    put_numbered(out, at, why.number(), why.place())
+    put_refusal(out, at, why.number(), why.place())
 }
 
 // ---- hexadecimal digits

@@ -4,4 +4,4 @@ use Rattle.refused_card.proofs.put_fault.Goals as goal
 
 pub returns : goal.returns
 unfolding fault_text
-returns c = then_typed _ _ _ (then_typed _ _ _ (then_typed _ _ _ (then_typed _ _ _ c.put_numbered-at.ensures c.put_text-at.ensures) (rw c.from.ensures at c.put_setting_name-at.ensures)) (rw c.from-2.ensures at c.put_range-at.ensures)) c.put_text.ensures
+returns c = then_typed _ _ _ (then_typed _ _ _ (then_typed _ _ _ (then_typed _ _ _ c.put_refusal-at.ensures c.put_text-at.ensures) (rw c.from.ensures at c.put_setting_name-at.ensures)) (rw c.from-2.ensures at c.put_range-at.ensures)) c.put_text.ensures

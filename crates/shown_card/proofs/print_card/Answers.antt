@@ -21,4 +21,4 @@ returns-in-Ok c = rw (← c.read-reading.ensures, c.in-Ok.is) (held _ _ _ c.put_
 
 pub returns-in-Err : goal.returns-in-Err
 unfolding shown_card
-returns-in-Err c = rw (← c.read-reading.ensures, c.in-Err.is, why-said) (held _ _ _ c.put_why.ensures)
+returns-in-Err c = rw (← c.read-reading.ensures, c.in-Err.is, why-said) (held _ _ _ c.put_why_of.ensures)

@@ -4,4 +4,4 @@ use Rattle.shown_tones.proofs.put_fault.Goals as goal
 
 pub returns : goal.returns
 unfolding fault_text
-returns c = then_typed _ _ _ (then_typed _ _ _ (then_typed _ _ _ c.put_numbered-at.ensures c.put_text-at.ensures) c.put_place-at.ensures) c.put_text.ensures
+returns c = then_typed _ _ _ (then_typed _ _ _ (then_typed _ _ _ c.put_refusal-at.ensures c.put_text-at.ensures) c.put_place-at.ensures) c.put_text.ensures
