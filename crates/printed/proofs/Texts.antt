@@ -28,6 +28,21 @@ card_refused form recording n why = by_number (card_text form recording n) refus
 pub start_refused : (why : Refusal) (recording : List ℕ) → start_after (refusal_of why) recording ≡ refusal_of why
 start_refused why recording = as_it_is (λ read. start_after read recording) (λ m. refl) (λ m place. refl) why
 
+-- the same three of every number, also of one that no refusal has
+pub started_refused_any : (form : Form) (recording : List ℕ) (n : ℕ)
+    → ((m : ℕ) → started_text form recording n (refused m) ≡ refused_line m) × ((m place : ℕ) → started_text form recording n (refused_at m place) ≡ refused_line m)
+unfolding started_text
+started_refused_any form recording n = (λ m. refl, λ m place. refl)
+
+pub card_refused_any : (form : Form) (recording : List ℕ) (n : ℕ)
+    → ((m : ℕ) → card_text form recording n (refused m) ≡ refused_line m) × ((m place : ℕ) → card_text form recording n (refused_at m place) ≡ refused_line m)
+unfolding card_text
+card_refused_any form recording n = (λ m. refl, λ m place. refl)
+
+pub start_refused_any : (recording : List ℕ)
+    → ((m : ℕ) → start_after (refused m) recording ≡ refused m) × ((m place : ℕ) → start_after (refused_at m place) recording ≡ refused_at m place)
+start_refused_any recording = (λ m. refl, λ m place. refl)
+
 -- a recording with more samples than a good one can have is refused before its first
 pub capped : (form : Form) (recording : List ℕ) (read : Answer Card) → card_text form recording (min (samples_in recording) most_samples) read ≡ card_text form recording (samples_in recording) read
 unfolding card_text start_ride started_text

@@ -22,6 +22,12 @@ pub below_refused : (telling : Telling) (recording : List ℕ) (n : ℕ) (why : 
 unfolding why_below
 below_refused telling recording n why = by_number (why_below telling recording n) refused_line (λ m. refl) (λ m place. refl) why
 
+-- the same of every number, also of one that no refusal has
+pub below_refused_any : (telling : Telling) (recording : List ℕ) (n : ℕ)
+    → ((m : ℕ) → why_below telling recording n (refused m) ≡ refused_line m) × ((m place : ℕ) → why_below telling recording n (refused_at m place) ≡ refused_line m)
+unfolding why_below
+below_refused_any telling recording n = (λ m. refl, λ m place. refl)
+
 -- a recording with more samples than a good one can have is refused before its first
 capped_after : (telling : Telling) (recording : List ℕ) (read : Answer Card)
     → why_below telling recording (min (samples_in recording) most_samples) (start_after read recording) ≡ why_below telling recording (samples_in recording) (start_after read recording)

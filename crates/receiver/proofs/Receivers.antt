@@ -4,12 +4,34 @@ use mathlib.Core.Path.{◌≡◌, refl, sym, ap, ◌∙◌}
 use mathlib.Core.Bool.{true, false}
 use mathlib.Core.List.{List, [], ◌∷◌, ◌++◌, append_assoc, flatten}
 use borrow.Author.Tests.{lt-ltb, le-ltb}
-use Rattle.leaf.specs.Answers.{Answer}
+use Rattle.leaf.specs.Answers.{Answer, refused, refused_at, refusal_of}
+use Rattle.leaf.specs.declared.refusal.Refusal.{Refusal}
+use Rattle.leaf.proofs.ByNumber.{by_number, as_it_is}
+use Rattle.card.specs.declared.Card.{Card}
 use Rattle.step.specs.declared.Answer.{Answer as Told}
-use Rattle.rides.specs.Ride.{shown_of}
-use Rattle.receiver.specs.Receiver.{with_status, quietly, refused_with, head_takes, sample_takes, open_takes, take_as, take_of, whole_in, end_as, end_of, received_all, shown_all, received_pieces, shown_pieces}
+use Rattle.rides.specs.Ride.{shown_of, number_of}
+use Rattle.receiver.specs.Receiver.{started_after, opened_with, with_status, quietly, refused_with, head_takes, sample_takes, open_takes, take_as, take_of, whole_in, end_as, end_of, received_all, shown_all, received_pieces, shown_pieces}
 use Rattle.receiver.specs.declared.Receiver.{Receiver}
 use Rattle.receiver.specs.declared.Status.TheVariants.{Open, Ended, Refused}
+
+-- ---- refusals at the start
+
+-- a card that is refused starts no receiver
+pub start_refused : (card : Card) (why : Refusal) → started_after (refusal_of why) card ≡ refusal_of why
+start_refused card why = as_it_is (λ judged. started_after judged card) (λ n. refl) (λ n place. refl) why
+
+-- a refused opening shows its number, without the place
+pub opened_refused : (r : Receiver) (why : Refusal) → opened_with r (refusal_of why) ≡ refused_with (number_of why) r
+unfolding opened_with
+opened_refused r why = by_number (opened_with r) (λ n. refused_with n r) (λ n. refl) (λ n place. refl) why
+
+-- the same of every number, also of one that no refusal has
+pub start_refused_any : (card : Card) → ((n : ℕ) → started_after (refused n) card ≡ refused n) × ((n place : ℕ) → started_after (refused_at n place) card ≡ refused_at n place)
+start_refused_any card = (λ n. refl, λ n place. refl)
+
+pub opened_refused_any : (r : Receiver) → ((n : ℕ) → opened_with r (refused n) ≡ refused_with n r) × ((n place : ℕ) → opened_with r (refused_at n place) ≡ refused_with n r)
+unfolding opened_with
+opened_refused_any r = (λ n. refl, λ n place. refl)
 
 -- ---- pieces
 

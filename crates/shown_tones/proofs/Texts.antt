@@ -12,7 +12,7 @@ use lib.Ieee.{Float, nan, inf, fin}
 use lib.Ieee.Scale.{finite}
 use Rattle.leaf.specs.Choosing.{pick}
 use Rattle.leaf.specs.Checks.{or_fault}
-use Rattle.leaf.specs.Answers.{number_of, place_of, refusal_of}
+use Rattle.leaf.specs.Answers.{number_of, place_of, refused, refused_at, refusal_of}
 use Rattle.leaf.specs.declared.refusal.Refusal.{Refusal}
 use Rattle.leaf.proofs.ByNumber.{by_place}
 use Rattle.text.specs.Hex.{hex_value}
@@ -33,6 +33,13 @@ pub answer_refused : (area : List ℕ) (bits : ℕ) (why : Refusal) → answer_t
 unfolding answer_text sheet_text
 answer_refused area bits why =
     by_place (answer_text area bits) (refused_text area) (λ number. refl) (λ number place. refl) why ∙ sym (sheet_refused area why)
+
+-- the same of every number, also of one that no refusal has
+pub answer_refused_any : (area : List ℕ) (bits : ℕ)
+    → ((number : ℕ) → answer_text area bits (refused number) ≡ sheet_text area (refused number))
+    × ((number place : ℕ) → answer_text area bits (refused_at number place) ≡ sheet_text area (refused_at number place))
+unfolding answer_text sheet_text
+answer_refused_any area bits = (λ number. refl, λ number place. refl)
 
 -- std's test of a finite number is Ieee's
 pub finite_is : (x : Float) → float_is_finite x ≡ finite x
