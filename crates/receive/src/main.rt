@@ -112,14 +112,10 @@ fn receive(
     Ok(())
 }
 
-// The heading and below it the start on the card, and then the line.
-fn print(rt: &impl System) -> Result<(), Failure> {
-    let size = size_asked(rt)?;
-    let mut space = [0; 64];
-    let h = print_heading(Form::Answers(Columns::Paper), &mut space);
-    let heading = &space[..h];
-    let mut space = [0; CARD_ROOM];
-    let card = card_under(rt, heading, &mut space)?;
+// The start on this card, below the heading, and then the line. It is not inlined, so that no room for the text is on the stack before the
+// card is read.
+#[inline(never)]
+fn print_below(rt: &impl System, heading: &[u8], card: &[u8], size: u16) -> Result<(), Failure> {
     let mut text = room::<TEXT_ROOM>();
     let begun = print_start(Columns::Paper, card, &mut text);
     let start = &text[..begun.length];
@@ -128,6 +124,17 @@ fn print(rt: &impl System) -> Result<(), Failure> {
         Ok(receiver) => receive(rt, receiver, size, &mut text),
         Err(_) => Ok(()),
     }
+}
+
+// The heading and below it, where the card's file could be read, all else.
+fn print(rt: &impl System) -> Result<(), Failure> {
+    let size = size_asked(rt)?;
+    let mut space = [0; 64];
+    let h = print_heading(Form::Answers(Columns::Paper), &mut space);
+    let heading = &space[..h];
+    let mut space = [0; CARD_ROOM];
+    let card = card_under(rt, heading, &mut space)?;
+    print_below(rt, heading, card, size)
 }
 
 // A failure has been told; the status stays 0, since the commands at the root make it of what is printed.

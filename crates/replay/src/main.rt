@@ -68,14 +68,15 @@ fn say_quotas(
     Ok(())
 }
 
-// The heading and below it the start of the recording on the card, and then the quotas.
-fn print(rt: &impl System) -> Result<(), Failure> {
-    let arguments = arguments_asked(rt)?;
-    let mut space = [0; 64];
-    let h = print_heading(&mut space);
-    let heading = &space[..h];
-    let mut space = [0; CARD_ROOM];
-    let card = card_under(rt, heading, &mut space)?;
+// The start of the recording on this card, below the heading, and then the quotas. It is not inlined, so that no room for the recording is
+// on the stack before the card is read.
+#[inline(never)]
+fn print_below(
+    rt: &impl System,
+    heading: &[u8],
+    card: &[u8],
+    arguments: usize,
+) -> Result<(), Failure> {
     let mut space = recording_room();
     let recording = shell::read_input(rt, &mut space);
     let mut text = [0; 4096];
@@ -86,6 +87,17 @@ fn print(rt: &impl System) -> Result<(), Failure> {
         Ok(session) => say_quotas(rt, recording, session, arguments),
         Err(_) => Ok(()),
     }
+}
+
+// The heading and below it, where the card's file could be read, all else.
+fn print(rt: &impl System) -> Result<(), Failure> {
+    let arguments = arguments_asked(rt)?;
+    let mut space = [0; 64];
+    let h = print_heading(&mut space);
+    let heading = &space[..h];
+    let mut space = [0; CARD_ROOM];
+    let card = card_under(rt, heading, &mut space)?;
+    print_below(rt, heading, card, arguments)
 }
 
 // A failure has been told; the status stays 0, since the commands at the root make it of what is printed.

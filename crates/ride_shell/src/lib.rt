@@ -61,20 +61,19 @@ pub fn card_under<'a>(
 
 // ---- the ride
 
-// Says a heading, and below it the text that is typed of the card in the file that the first argument names and of the recording on
-// standard input. The text has the heading too, which is not said again; it is typed into the buffer, and `print` answers how long it is.
+// Says below a heading the text that is typed of this card and of the recording on standard input. The text has the heading too, which is
+// not said again; it is typed into the buffer, and `print` answers how long it is.
 // What is printed is promised byte by byte of a buffer that is lent (`printed_as`, `printed_why`), so it is no `Display`.
 pub fn print_under<P: Fn(&[u8], &[u8], &mut [u8]) -> usize>(
     rt: &impl System,
     heading: &[u8],
+    card: &[u8],
     text: &mut [u8],
     print: P,
 ) -> Result<(), Failure>
     requires { P.IsAlwaysCallable print }
     ensures { OnOk result ((card : _) × (recording : _) × (out : _) × (n : _) × (after : _) × P.post print card recording out n after) }
 {
-    let mut space = [0; CARD_ROOM];
-    let card = card_under(rt, heading, &mut space)?;
     let mut space = recording_room();
     let recording = shell::read_input(rt, &mut space);
     let end = print(card, recording, text);
@@ -82,16 +81,26 @@ pub fn print_under<P: Fn(&[u8], &[u8], &mut [u8]) -> usize>(
     say(rt, text.strip_prefix(heading).unwrap_or_default())
 }
 
+// The ride on this card, in this form. It is not inlined, so that no room for recording and text is on the stack before the card is read.
+#[inline(never)]
+fn say_below(rt: &impl System, form: Form, heading: &[u8], card: &[u8]) -> Result<(), Failure> {
+    let mut text = room::<TEXT_ROOM>();
+    print_under(
+        rt,
+        heading,
+        card,
+        &mut text,
+        |card, recording, text| print_ride(form, card, recording, text),
+    )
+}
+
 // The ride in this form: its heading, and below it, where the card's file could be read, all else. `why` has the same of another heading,
 // another text and another room: `print_under` is what they have in common.
 pub fn say_ride(rt: &impl System, form: Form) -> Result<(), Failure> {
     let mut space = [0; 64];
     let h = print_heading(form, &mut space);
-    let mut text = room::<TEXT_ROOM>();
-    print_under(
-        rt,
-        &space[..h],
-        &mut text,
-        |card, recording, text| print_ride(form, card, recording, text),
-    )
+    let heading = &space[..h];
+    let mut space = [0; CARD_ROOM];
+    let card = card_under(rt, heading, &mut space)?;
+    say_below(rt, form, heading, card)
 }

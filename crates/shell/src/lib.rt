@@ -113,6 +113,8 @@ pub fn argument_file<'a>(
 
 // The file that the program's argument names, from its first byte to its end or as far as buf goes. Where it cannot be
 // opened or read to its end, `cannot read` and its name are written. A path is text, so a name that is no UTF-8 cannot be opened.
+// It is not inlined, so that the room of the name is on the stack while the file is read and no longer.
+#[inline(never)]
 pub fn named_file<'a>(rt: &impl System, buf: &'a mut [u8]) -> Result<&'a [u8], Failure>
     ensures { IfOk result (λ bytes. length bytes.now ≤ length buf.old) }
 {

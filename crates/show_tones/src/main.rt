@@ -16,10 +16,10 @@ fn show_line(rt: &impl System, sheet: &[u8], line: &[u8]) -> Result<(), Failure>
     say(rt, &text[..n])
 }
 
-// Nothing is printed of an accepted sheet but its lines.
-fn show(rt: &impl System) -> Result<(), Failure> {
-    let mut space = [0; 65536];
-    let sheet = argument_file(rt, USAGE, &mut space)?;
+// Nothing is printed of an accepted sheet but its lines. It is not inlined, so that no room for a text is on the stack while the file is
+// read.
+#[inline(never)]
+fn show_sheet(rt: &impl System, sheet: &[u8]) -> Result<(), Failure> {
     let mut text = [0; 4096];
     let n = print_sheet(sheet, &mut text);
     if n > 0 {
@@ -27,6 +27,12 @@ fn show(rt: &impl System) -> Result<(), Failure> {
     }
     let mut space = [0; 80];
     for_each_line(rt, &mut space, |line| show_line(rt, sheet, line))
+}
+
+fn show(rt: &impl System) -> Result<(), Failure> {
+    let mut space = [0; 65536];
+    let sheet = argument_file(rt, USAGE, &mut space)?;
+    show_sheet(rt, sheet)
 }
 
 // A failure has been told; the status stays 0, since the commands at the root make it of what is printed.

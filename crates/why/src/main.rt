@@ -5,7 +5,7 @@
 #![tactic(auto)]
 
 use printed_why::{Telling, print_why, print_why_heading};
-use ride_shell::{print_under, word_behind_card};
+use ride_shell::{CARD_ROOM, card_under, print_under, word_behind_card};
 use shell::{Failure, System, failed, room};
 
 const USAGE: &[u8] = b"usage: why CARD [words] < RECORDING\n";
@@ -13,18 +13,33 @@ const USAGE: &[u8] = b"usage: why CARD [words] < RECORDING\n";
 // No heading and 10,000 lines of at most 140 bytes, in words; in numbers 660,040 bytes do (proofs/Room.antt).
 const TEXT_ROOM: usize = 1400040;
 
-// It is ride_shell's `say_ride` with another heading, another text and another room; `print_under` is what they have in common. Each room
+// The reasons on this card. It is not inlined, so that no room for recording and text is on the stack before the card is read. Each room
 // of the program is of a fixed size: there is no heap, and it cannot run out of memory.
-fn say_why(rt: &impl System, telling: Telling) -> Result<(), Failure> {
-    let mut space = [0; 64];
-    let h = print_why_heading(telling, &mut space);
+#[inline(never)]
+fn say_below(
+    rt: &impl System,
+    telling: Telling,
+    heading: &[u8],
+    card: &[u8],
+) -> Result<(), Failure> {
     let mut text = room::<TEXT_ROOM>();
     print_under(
         rt,
-        &space[..h],
+        heading,
+        card,
         &mut text,
         |card, recording, text| print_why(telling, card, recording, text),
     )
+}
+
+// It is ride_shell's `say_ride` with another heading, another text and another room; `print_under` is what they have in common.
+fn say_why(rt: &impl System, telling: Telling) -> Result<(), Failure> {
+    let mut space = [0; 64];
+    let h = print_why_heading(telling, &mut space);
+    let heading = &space[..h];
+    let mut space = [0; CARD_ROOM];
+    let card = card_under(rt, heading, &mut space)?;
+    say_below(rt, telling, heading, card)
 }
 
 fn print(rt: &impl System) -> Result<(), Failure> {
