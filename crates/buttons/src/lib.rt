@@ -81,8 +81,7 @@ fn is_free(d: Desk, weight: u16) -> bool
     !d.window.answers(weight) && !d.side.answers(weight)
 }
 
-// The paired limit of this speed goes; none where it is 0. The paired limit of this speed goes, none where it is 0: a number, as
-// `lowest_to_go` answers it.
+// The paired limit of this speed goes; none where it is 0: a number, as `lowest_to_go` answers it.
 #[tactic(auto, unfolding(crate::specs::Buttons::paired_removed))]
 fn remove_paired(mut d: Desk, speed: u8) -> Desk
     ensures { result ≡ paired_removed speed d }
